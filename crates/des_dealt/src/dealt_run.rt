@@ -1,5 +1,5 @@
 //! Runs by crews whose nodes are divided again before each window.
-ghost use Rattle.std.specs.Prelude.{◌≡◌, ◌≢◌, ◌<◌, ◌≤◌, false, length, Err};
+ghost use Rattle.std.specs.Prelude.{◌≡◌, ◌≢◌, ◌⊎◌, ◌<◌, ◌≤◌, ℕ, List, Option, false, length, Err, IfErr, OnOk};
 ghost use Rattle.des_machine.specs.Runs.{IsRun};
 ghost use Rattle.des_machine.specs.Simulable.{IsSimulable};
 ghost use Rattle.des_model.specs.Windows.{Division as ADivision};
@@ -14,6 +14,7 @@ use des_event::RunError;
 use des_machine::{Machine, Scribe};
 use des_output::Watched;
 use des_parts::{CopiesStates, Window, WindowEngine};
+use des_redivide::divide_again;
 use des_window::Division;
 use std::alloc::Global;
 use std::io::Write;
@@ -100,7 +101,7 @@ where
     let mut loads = vec![in alloc; 0u64; machine.nodes() as usize]?;
     while let Some(opening) = engine.opening() {
         let division = dealer.deal(loads.as_slice())?;
-        engine.redivide(alloc, machine, &division)?;
+        redivide(alloc, machine, engine, &division)?;
         let window = Window {
             alloc,
             machine,
@@ -112,6 +113,25 @@ where
         engine.put_window(alloc, machine, opening, dones, writer)?;
     }
     engine.finish(alloc, machine, writer)
+}
+
+/// Divides the nodes of a run again, from the next window on. After an error the run cannot go on.
+fn redivide<M: Machine, S: Scribe<M> + Drop>(
+    alloc: Global,
+    machine: &M,
+    engine: &mut WindowEngine<M, S>,
+    division: &Division,
+) -> Result<(), RunError>
+    requires at { (old : Option (List ℕ)) × (now : Option (List ℕ)) × IsAt (S.text machine.now) (M.model machine.now) (S.HasCounted machine.now) old now engine.old }
+    ensures at { OnOk result ((old now : Option (List ℕ)) → IsAt (S.text machine.now) (M.model machine.now) (S.HasCounted machine.now) old now engine.old → IsAt (S.text machine.now) (M.model machine.now) (S.HasCounted machine.now) old now engine.new) }
+    ensures count { OnOk result (engine.new.world.count ≡ engine.old.world.count) }
+    ensures opening { OnOk result (engine.new.world.opening ≡ engine.old.world.opening) }
+    ensures division { OnOk result (engine.new.world.division ≡ division.now) }
+    ensures bad { result ≡ Err RunError.BadDivision → length division.now.of_node ≢ (M.model machine.now).nodes }
+    ensures only { IfErr result (λ e. (e ≡ RunError.Memory) ⊎ (e ≡ RunError.BadDivision)) }
+{
+    divide_again(alloc, machine, &mut engine.world, division)?;
+    Ok(())
 }
 
 /// Hands the prover the laws that hold of the machine. It does nothing else.

@@ -4,7 +4,6 @@ pub mod WellFormed
 pub mod Windows
 pub mod Schedules
 pub mod Laws
-pub mod Relay
 pub mod Worlds
 pub mod PartRuns
 pub mod Scribes

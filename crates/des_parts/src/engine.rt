@@ -51,30 +51,6 @@ impl<M: Machine, S: Scribe<M> + Drop> WindowEngine<M, S> {
         })
     }
 
-    /// Divides the nodes again, from the next window on. The machine is the one that the run was
-    /// started from. After an error the run cannot go on.
-    ///
-    /// # Errors
-    ///
-    /// `BadDivision`, if the division has another number of nodes than the machine; `Memory`.
-    pub fn redivide(
-        &mut self,
-        alloc: Global,
-        machine: &M,
-        division: &Division,
-    ) -> Result<(), RunError>
-        requires at { (old : Option (List ℕ)) × (now : Option (List ℕ)) × IsAt (S.text machine.now) (M.model machine.now) (S.HasCounted machine.now) old now self.old }
-        ensures at { OnOk result ((old now : Option (List ℕ)) → IsAt (S.text machine.now) (M.model machine.now) (S.HasCounted machine.now) old now self.old → IsAt (S.text machine.now) (M.model machine.now) (S.HasCounted machine.now) old now self.new) }
-        ensures count { OnOk result (self.new.world.count ≡ self.old.world.count) }
-        ensures opening { OnOk result (self.new.world.opening ≡ self.old.world.opening) }
-        ensures division { OnOk result (self.new.world.division ≡ division.now) }
-        ensures bad { result ≡ Err RunError.BadDivision → length division.now.of_node ≢ (M.model machine.now).nodes }
-        ensures only { IfErr result (λ e. (e ≡ RunError.Memory) ⊎ (e ≡ RunError.BadDivision)) }
-    {
-        self.world.divide_again(alloc, machine, division)?;
-        Ok(())
-    }
-
     /// The world that the windows so far have left.
     pub fn world(&self) -> &World<M::State, M::Body>
         ensures { result.now ≡ self.now.world }

@@ -18,8 +18,8 @@ pub use part_order::in_part_order;
 pub use part_run::{Done, run_part};
 pub use window::Window;
 pub use world::World;
-// Other ways to run windows, such as a crew, go by these. Contracts name the types of the engine's
-// fields.
+// Other ways to run windows, such as a crew, go by these, and so do divisions of a world. Contracts
+// name the types of the engine's fields.
 #[doc(hidden)]
 pub use copies::Copies;
 #[doc(hidden)]
@@ -29,4 +29,4 @@ pub use part_order::{empty_slots, take_out};
 #[doc(hidden)]
 pub use part_run::PartRun;
 #[doc(hidden)]
-pub use world::PartEvents;
+pub use world::{PartEvents, expect_division, fill, no_events};

@@ -1,11 +1,11 @@
 //! The state of a run between two windows.
 ghost use Rattle.std.specs.Prelude.{◌≢◌, ◌⊎◌, IfErr, IfSome, Err, Some, ◌≡◌, ◌<◌, ◌≤◌, ◌++◌, [], ℕ, length, List, OnOk, IfOk};
-ghost use Rattle.std.specs.List.{All, AllByRecursion, flat_map};
+ghost use Rattle.std.specs.List.{All, AllByRecursion};
 ghost use Rattle.des_model.specs.Histories.{history};
 ghost use Rattle.des_model.specs.PartRuns.{horizon_after};
 ghost use Rattle.des_model.specs.Windows.{Divides};
 ghost use Rattle.des_parts.specs.declared.world.World.{World as AWorld};
-ghost use Rattle.des_parts.specs.Worlds.{IsWorldOf, StandAfter, events_of};
+ghost use Rattle.des_parts.specs.Worlds.{IsWorldOf, StandAfter};
 ghost use Rattle.des_parts.specs.Delivery.{CanDeliver, HasDelivered, IsAhead, LeastIs, HasOpened, OpensAt, horizon_of};
 
 use des_event::{Event, Memory, RunError};
@@ -13,7 +13,6 @@ use des_machine::{AuditClock, Machine};
 use des_queue::Pending;
 use des_window::{Division, Opening, horizon_from, sooner};
 use std::alloc::Global;
-use std::mem;
 
 /// The pending events of a part: those of the next window, in the order of their keys, and the
 /// others. The due ones are taken out when the window is opened, since its horizon depends on the
@@ -59,36 +58,10 @@ impl<B: Drop> PartEvents<B> {
         }
         Ok(())
     }
-
-    /// Moves all events to the end of a list.
-    fn move_to(&mut self, list: &mut Vec<Event<B>>) -> Result<(), Memory>
-        ensures { OnOk result (list.new.items ≡ list.old.items ++ events_of self.old) }
-    {
-        list.append(&mut self.due)?;
-        while let Some(event) = self.later.pop_first() {
-            list.push(event)?;
-        }
-        Ok(())
-    }
-}
-
-/// The events of all parts.
-fn all_events<B: Drop>(alloc: Global, parts: Vec<PartEvents<B>>) -> Result<Vec<Event<B>>, Memory>
-    ensures { IfOk result (λ list. list.items ≡ flat_map events_of parts.items) }
-{
-    let mut list = Vec::new(alloc);
-    for part in parts {
-        let mut part = part;
-        let moved = part.move_to(&mut list);
-        // By one call: at each end of a function a struct is dropped field by field.
-        drop(part);
-        moved?;
-    }
-    Ok(list)
 }
 
 /// `parts` parts without events.
-fn no_events<B: Drop>(alloc: Global, parts: u32) -> Result<Vec<PartEvents<B>>, Memory>
+pub fn no_events<B: Drop>(alloc: Global, parts: u32) -> Result<Vec<PartEvents<B>>, Memory>
     ensures long { IfOk result (λ list. length list.items ≡ parts) }
     ensures none { IfOk result (λ list. AllByRecursion (λ e. e.later ≡ []) list.items) }
 {
@@ -137,59 +110,6 @@ impl<T: Drop, B: Drop> World<T, B> {
         })
     }
 
-    /// The same world with another division of the nodes: the pending events go to the parts of
-    /// that division, and all else stays. The machine is the one that the world was started from.
-    /// After an error the world is dropped.
-    ///
-    /// # Errors
-    ///
-    /// `BadDivision`, if the division has another number of nodes than the machine; `Memory`.
-    pub fn redivide<M: Machine<State = T, Body = B>>(
-        self,
-        alloc: Global,
-        machine: &M,
-        division: &Division,
-    ) -> Result<World<T, B>, RunError>
-        requires world { IsWorldOf (M.model machine.now) self }
-        ensures world { IfOk result (λ world. IsWorldOf (M.model machine.now) world) }
-        ensures count { IfOk result (λ world. world.count ≡ self.count) }
-        ensures states { IfOk result (λ world. world.states ≡ self.states) }
-        ensures opening { IfOk result (λ world. world.opening ≡ self.opening) }
-        ensures division { IfOk result (λ world. world.division ≡ division.now) }
-        ensures bad { result ≡ Err RunError.BadDivision → length division.now.of_node ≢ (M.model machine.now).nodes }
-        ensures only { IfErr result (λ e. (e ≡ RunError.Memory) ⊎ (e ≡ RunError.BadDivision)) }
-    {
-        let mut world = self;
-        world.divide_again(alloc, machine, division)?;
-        Ok(world)
-    }
-
-    /// `redivide` in place. After an error the world is unusable.
-    pub(crate) fn divide_again<M: Machine<State = T, Body = B>>(
-        &mut self,
-        alloc: Global,
-        machine: &M,
-        division: &Division,
-    ) -> Result<(), RunError>
-        requires world { IsWorldOf (M.model machine.now) self.old }
-        ensures world { OnOk result (IsWorldOf (M.model machine.now) self.new) }
-        ensures count { OnOk result (self.new.count ≡ self.old.count) }
-        ensures states { OnOk result (self.new.states ≡ self.old.states) }
-        ensures opening { OnOk result (self.new.opening ≡ self.old.opening) }
-        ensures division { OnOk result (self.new.division ≡ division.now) }
-        ensures bad { result ≡ Err RunError.BadDivision → length division.now.of_node ≢ (M.model machine.now).nodes }
-        ensures only { IfErr result (λ e. (e ≡ RunError.Memory) ⊎ (e ≡ RunError.BadDivision)) }
-    {
-        machine.recall();
-        expect_division(machine, division)?;
-        let parts = mem::replace(&mut self.parts, no_events(alloc, division.parts())?);
-        let events = all_events(alloc, parts)?;
-        // This finds the next window again. It is the one that the world had.
-        self.opening = fill(machine, &self.clock, division, &mut self.parts, events)?;
-        self.division = division.try_clone()?;
-        Ok(())
-    }
-
     /// The time in microseconds that the next window's events are before, or `None` if no event
     /// before the duration is pending. The machine is the one that the world was started from.
     pub fn horizon<M: Machine<State = T, Body = B>>(&self, machine: &M) -> Option<u64>
@@ -204,7 +124,7 @@ impl<T: Drop, B: Drop> World<T, B> {
 }
 
 /// Refuses a division of another number of nodes.
-fn expect_division<M: Machine>(machine: &M, division: &Division) -> Result<(), RunError>
+pub fn expect_division<M: Machine>(machine: &M, division: &Division) -> Result<(), RunError>
     ensures divides { OnOk result (Divides division.now (M.model machine.now).nodes) }
     ensures bad { result ≡ Err RunError.BadDivision → length division.now.of_node ≢ (M.model machine.now).nodes }
     ensures only { IfErr result (λ e. e ≡ RunError.BadDivision) }
@@ -217,7 +137,7 @@ fn expect_division<M: Machine>(machine: &M, division: &Division) -> Result<(), R
 }
 
 /// Gives all pending events of a run to parts that have none, and opens the next window.
-fn fill<M: Machine>(
+pub fn fill<M: Machine>(
     machine: &M,
     clock: &AuditClock,
     division: &Division,

@@ -1,0 +1,5 @@
+pub mod Counted
+pub mod OngoingHistories
+pub mod OngoingStarts
+pub mod Accounts
+pub mod Ends

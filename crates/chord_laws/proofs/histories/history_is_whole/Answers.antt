@@ -1,0 +1,6 @@
+use Rattle.chord_machine.specs.Chord.{chord}
+use Rattle.des_model.proofs.Runs.{history_is_whole}
+use Rattle.chord_laws.proofs.histories.history_is_whole.Goals as goal
+
+pub returns : goal.returns
+returns c sc ranges = history_is_whole (chord sc)

@@ -1,0 +1,3 @@
+pub mod Ongoing
+pub mod Accounts
+pub mod Ends

@@ -1,5 +1,0 @@
-use Rattle.chord_machine.proofs.OngoingHistories.{calls_are_timed}
-use Rattle.chord_machine.proofs.histories.calls_are_timed.Goals as goal
-
-pub returns : goal.returns
-returns c = calls_are_timed

@@ -1,5 +1,0 @@
-use Rattle.chord_machine.proofs.OngoingHistories.{joins_go_on}
-use Rattle.chord_machine.proofs.histories.joins_go_on.Goals as goal
-
-pub returns : goal.returns
-returns c = joins_go_on

@@ -1,5 +1,0 @@
-use Rattle.chord_machine.proofs.Accounts.{lookups_are_accounted_for}
-use Rattle.chord_machine.proofs.histories.lookups_are_accounted_for.Goals as goal
-
-pub returns : goal.returns
-returns c = lookups_are_accounted_for

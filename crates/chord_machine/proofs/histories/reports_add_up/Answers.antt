@@ -1,8 +1,0 @@
-use Rattle.chord_machine.proofs.Accounts.{reports_add_up, unfinished_are_unended}
-use Rattle.chord_machine.proofs.histories.reports_add_up.Goals as goal
-
-pub returns-clause-unfinished : goal.returns-clause-unfinished
-returns-clause-unfinished c = unfinished_are_unended
-
-pub returns-clause-all : goal.returns-clause-all
-returns-clause-all c = reports_add_up

@@ -1,5 +1,0 @@
-use Rattle.chord_machine.proofs.OngoingHistories.{retries_are_limited}
-use Rattle.chord_machine.proofs.histories.retries_are_limited.Goals as goal
-
-pub returns : goal.returns
-returns c = retries_are_limited

@@ -1,7 +1,0 @@
-use Rattle.chord_machine.proofs.WellFormed.{well_formed}
-use Rattle.chord_machine.specs.Chord.{chord}
-use Rattle.des_model.proofs.Commuting.{limit_found}
-use Rattle.chord_machine.proofs.windows.limit_is_found.Goals as goal
-
-pub returns : goal.returns
-returns c sc ranges = limit_found (chord sc) (well_formed sc ranges)

@@ -1,5 +1,0 @@
-use Rattle.des_model.proofs.Runs.{possible_from_legal}
-use Rattle.des_model.proofs.legal_is_possible.Goals as goal
-
-pub returns : goal.returns
-returns g c m = possible_from_legal m

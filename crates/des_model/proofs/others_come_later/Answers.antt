@@ -1,5 +1,0 @@
-use Rattle.des_model.proofs.Commuting.{others_later}
-use Rattle.des_model.proofs.others_come_later.Goals as goal
-
-pub returns : goal.returns
-returns g c m sound fit w = others_later m w

@@ -1,8 +1,0 @@
-use Rattle.std.proofs.Common.{◌<◌}
-use Rattle.des_event.proofs.Members.{All_at}
-use Rattle.des_model.proofs.Outputs.{output_more}
-use Rattle.des_model.proofs.windows_add_pieces.Goals as goal
-
-pub returns : goal.returns
-returns g c m sound fit w = λ h time horizon o clear ran some l early. output_more m w h time horizon o clear ran some l
-    (λ x k. All_at (λ x. x.key.time < horizon) ran x early k)
