@@ -1,4 +1,4 @@
--- A loop over tables that adds, for each of one kind, what it makes of it.
+-- A loop over tables that adds, for each of one kind, what it makes of it, or, for each, all that it makes of it.
 use Rattle.std.proofs.Common.{
   ◌≡◌,
   ◌∙◌,
@@ -18,6 +18,7 @@ use Rattle.std.proofs.Common.{
   ◌++◌,
   map,
   filter,
+  flat_map,
   length,
   drop,
   get_or,
@@ -61,3 +62,19 @@ module _ {X A B : Type 0} (seen : X → A) (test : A → Bool) (make : A → B) 
 pub made-all : {X A B : Type 0} (seen : X → A) (test : A → Bool) (make : A → B) (xs : List X) (i : ℕ) (done : List B)
     → done ++ made seen test make (drop i xs) ≡ made seen test make xs → length xs ≤ i → done ≡ made seen test make xs
 made-all seen test make xs i done before over = sym (append-nil done) ∙ ap (λ l. done ++ made seen test make l) (sym (drop_all i xs over)) ∙ before
+
+-- what is made of each item, in one list
+module _ {X A B : Type 0} (seen : X → A) (make : A → List B) (xs : List X) (i : ℕ) (done : List B) where
+  -- what is made of one more item is added
+  pub each-more : (x : X) (after : List B) → done ++ flat_map make (map seen (drop i xs)) ≡ flat_map make (map seen xs)
+      → i < length xs → x ≡ get_or xs i x → after ≡ done ++ make (seen x)
+      → after ++ flat_map make (map seen (drop (i + 1) xs)) ≡ flat_map make (map seen xs)
+  each-more x after before within is added =
+      let rest : List B = flat_map make (map seen (drop (i + 1) xs)) in
+      let turn : flat_map make (map seen (drop i xs)) ≡ make (seen x) ++ rest = ap (λ l. flat_map make (map seen l)) (drop_more xs i x within)
+      ∙ ap (λ y. flat_map make (map seen (y ∷ drop (i + 1) xs))) (sym is) in
+      ap (λ l. l ++ rest) added ∙ append_assoc done (make (seen x)) rest ∙ ap (λ l. done ++ l) (sym turn) ∙ before
+
+  -- and at the end all is there
+  pub each-all : done ++ flat_map make (map seen (drop i xs)) ≡ flat_map make (map seen xs) → length xs ≤ i → done ≡ flat_map make (map seen xs)
+  each-all before over = sym (append-nil done) ∙ ap (λ l. done ++ flat_map make (map seen l)) (sym (drop_all i xs over)) ∙ before

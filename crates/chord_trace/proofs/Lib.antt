@@ -4,3 +4,4 @@ pub mod Merges
 pub mod Reports
 pub mod Tallies
 pub mod Timed
+pub mod Written

@@ -205,3 +205,12 @@ pub loop-i-init : goal.loop-i-init
 loop-i-init c =
     let zeros = c.in_ok-cells.ensures.items_if_clones_equal (λ _ e. e) in
     record { has = rw zeros (zeros_have c.args.rows.now.names.nodes.now); first = refl }
+
+pub index-requires : goal.index-requires
+index-requires c = omega (arith, c.cell_of-place.ensures.within, c.loop-i.invariant.has.size, c.loop-i.cells.ok)
+
+pub index_mut-requires : goal.index_mut-requires
+index_mut-requires c = omega (arith, c.cell_of-place.ensures.within, c.loop-i.invariant.has.size, c.loop-i.cells.ok)
+
+pub index_mut-requires-in-loop-i : goal.index_mut-requires-in-loop-i
+index_mut-requires-in-loop-i c = omega (arith, c.cell_of-mirrored.ensures.within, c.loop-i.invariant.has.size, c.loop-i.cells.ok)

@@ -1,4 +1,4 @@
-use Rattle.std.proofs.Common.{◌≡◌, ◌∙◌, ◌⊎◌, sym, ap, inl, inr, ℕ, List, map, rules, Option, Some, None}
+use Rattle.std.proofs.Common.{◌≡◌, ◌∙◌, ◌⊎◌, sym, ap, inl, inr, subst, ℕ, length, List, map, rules, Option, Some, None}
 use Rattle.std.specs.Option.{option_or}
 use Rattle.toml.specs.Data.{Members}
 use Rattle.toml.specs.View.{table_view}
@@ -9,6 +9,7 @@ use Rattle.chord_scenario.specs.declared.setting.Coordinates.{Coordinates}
 use Rattle.chord_scenario.specs.declared.setting.Node.{Node}
 use Rattle.chord_scenario.specs.Faults.{first_answer, same_link_twice, below_window, rows_and_coordinates}
 use Rattle.chord_scenario.specs.Groups.{pair_questions}
+use Rattle.chord_scenario.specs.Latencies.{HasLatencies, square_or_zeros}
 use Rattle.chord_scenario.specs.Rows.{Row, rows_of}
 use Rattle.chord_scenario.specs.Sections.{Section, section_of}
 use Rattle.chord_scenario.specs.Settings.{coordinates_of}
@@ -81,3 +82,24 @@ returns-in-None-clause-coordinates c = c.in_ok-coordinates.ensures ∙ ap (λ se
 
 pub returns-in-None-clause-square : goal.returns-in-None-clause-square
 returns-in-None-clause-square c = c.in_ok-cells.ensures.square
+
+pub latencies-requires-clause-few : goal.latencies-requires-clause-few
+latencies-requires-clause-few c = c.requires.few
+
+pub latencies-requires-clause-known : goal.latencies-requires-clause-known
+latencies-requires-clause-known c = c.requires.known
+
+pub latencies-requires-clause-good : goal.latencies-requires-clause-good
+latencies-requires-clause-good c = c.requires.good
+
+pub below_window-requires-clause-square : goal.below_window-requires-clause-square
+below_window-requires-clause-square c =
+    let nodes = c.args.rows.now.names.nodes.now in
+    subst (λ (cells : List ℕ). HasLatencies nodes (rows_of c.args.rows.now.text.now) (square_or_zeros (length nodes) cells))
+    (sym c.deref.ensures.value) c.in_ok-cells.ensures.square
+
+pub below_window-requires-clause-good : goal.below_window-requires-clause-good
+below_window-requires-clause-good c = c.requires.good
+
+pub below_window-requires-clause-distinct : goal.below_window-requires-clause-distinct
+below_window-requires-clause-distinct c = c.requires.distinct

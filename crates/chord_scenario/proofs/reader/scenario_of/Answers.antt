@@ -1,4 +1,4 @@
-use Rattle.std.proofs.Common.{◌≡◌, ◌∙◌, ◌⊎◌, ◌++◌, ◌<◌, ◌^◌, inl, inr, List, Option, ap, subst, ℕ, map, length, Some, None, refl, rules}
+use Rattle.std.proofs.Common.{◌≡◌, ◌∙◌, ◌⊎◌, ◌++◌, ◌<◌, ◌^◌, inl, inr, List, Option, ap, subst, sym, ℕ, map, length, Some, None, refl, rules}
 use Rattle.std.specs.List.{All}
 use Rattle.std.specs.Option.{option_or}
 use Rattle.chord_scenario.specs.Rows.{rows_of}
@@ -9,13 +9,14 @@ use Rattle.chord_scenario.specs.declared.fault.ScenarioFault.TheVariants.{Memory
 use Rattle.chord_scenario.specs.declared.key.FileKey.TheVariants as key
 use Rattle.chord_scenario.specs.declared.setting.Command.{Command}
 use Rattle.chord_scenario.specs.declared.setting.Node.{Node}
-use Rattle.chord_scenario.specs.Accepted.{setup_with, nodes_in, commands_in}
+use Rattle.chord_scenario.specs.Accepted.{IsSetupOf, setup_with, nodes_in, commands_in}
+use Rattle.chord_scenario.specs.Range.{IsInRange}
 use Rattle.chord_scenario.specs.Faults.{file_fault, first_answer}
 use Rattle.chord_scenario.specs.Groups.{key_questions, node_questions, late_questions}
 use Rattle.chord_scenario.specs.Latencies.{HasLatencies, square_or_zeros}
 use Rattle.chord_scenario.specs.Rows.{Row}
 use Rattle.chord_scenario.specs.Sections.{Section, section_of, sections}
-use Rattle.chord_scenario.specs.Settings.{nodes_of, commands_of}
+use Rattle.chord_scenario.specs.Settings.{bootstraps_of, commands_of, coordinates_of, nodes_of}
 use Rattle.chord_scenario.specs.Values.{number_at}
 use Rattle.chord_scenario.proofs.InRange.{KeysFit, keys_fit, in_range}
 use Rattle.chord_scenario.proofs.LatencyFacts.{placed}
@@ -123,7 +124,9 @@ assembled-requires-clause-in_range c =
     let cells = square_or_zeros (length (nodes_in top)) c.in_ok-linked.linked.distances.cells.items in
     let square = subst (λ n. HasLatencies n rows (square_or_zeros (length n) c.in_ok-linked.linked.distances.cells.items)) lent linked.square in
     let on_circle : All (λ n. n.ident < 2 ^ number_at key.Bits top) (nodes_in top) = rw (← own, ← is) c.in_ok-nodes.ensures.on_circle in
-    rw (own, commands) (in_range (number_at key.Profile top) top rows cells refl c.in_ok-circle.ensures.sound asked late square on_circle)
+    let lent_cells = c.in_ok-linked.linked.distances.cells.items in
+    subst IsInRange (λ i. setup_with top (sym own i) (sym commands i) (square_or_zeros (length (sym own i)) lent_cells))
+    (in_range (number_at key.Profile top) top rows cells refl c.in_ok-circle.ensures.sound asked late square on_circle)
 
 pub returns-clause-values : goal.returns-clause-values
 returns-clause-values c =
@@ -142,8 +145,10 @@ returns-clause-values c =
     let square = subst (λ n. HasLatencies n rows (square_or_zeros (length n) c.in_ok-linked.linked.distances.cells.items)) lent linked.square in
     let distinct = node_questions-distinct (sections top) (nodes_in top) asked in
     let sc = setup_with top (nodes_in top) (commands_in top) cells in
-    let made : c.assembled.result ≡ sc = c.assembled.ensures ∙ rw (own, commands) in
-    rw made (record {
+    let lent_cells = c.in_ok-linked.linked.distances.cells.items in
+    let made : c.assembled.result ≡ sc =
+    c.assembled.ensures ∙ (λ i. setup_with top (own i) (commands i) (square_or_zeros (length (own i)) lent_cells)) in
+    subst (IsSetupOf top rows) (sym made) (record {
       values = ap (setup_with top (nodes_in top) (commands_in top)) (square_is (nodes_in top) rows cells square distinct);
       latencies = λ none i j x y apart hx hy. latency-between rows sc i j x y square linked.good distinct none apart hx hy;
       distances = placed sc;
@@ -194,3 +199,22 @@ bootstraps-requires c =
     let own = own_nodes top c.in_ok-circle.circle (map section_of c.as_slice-tables.result.now) c.in_ok-nodes.nodes.items c.in_ok-circle.ensures.value
     tables c.in_ok-nodes.ensures.value in
     rw (c.as_slice-2.ensures.value, own) (fit top c.in_ok-circle.ensures.sound).nodes
+
+pub checked_circle-requires : goal.checked_circle-requires
+checked_circle-requires c = ap (map section_of) c.as_slice-tables.ensures.value ∙ c.in_ok-placed.ensures
+
+pub link_nodes-requires-clause-distinct : goal.link_nodes-requires-clause-distinct
+link_nodes-requires-clause-distinct c =
+    rw c.in_ok-names.ensures.nodes
+    (node_questions-distinct (map section_of c.as_slice-tables.result.now) c.as_slice.result.now c.in_ok-names.ensures.sound)
+
+pub assembled-requires-clause-circle : goal.assembled-requires-clause-circle
+assembled-requires-clause-circle c = c.in_ok-circle.ensures.value
+
+pub assembled-requires-clause-coordinates : goal.assembled-requires-clause-coordinates
+assembled-requires-clause-coordinates c =
+    let tables = ap (map section_of) c.as_slice-tables.ensures.value ∙ c.in_ok-placed.ensures in
+    c.in_ok-linked.ensures.coordinates ∙ ap (coordinates_of (number_at key.Seed (table_view c.args.top.now))) tables
+
+pub assembled-requires-clause-bootstraps : goal.assembled-requires-clause-bootstraps
+assembled-requires-clause-bootstraps c = c.in_ok-bootstraps.ensures ∙ ap bootstraps_of c.as_slice-2.ensures.value

@@ -1,6 +1,31 @@
-use Rattle.std.proofs.Common.{◌≡◌, ◌∙◌, ◌++◌, ◌∷◌, ◌+◌, ◌<◌, [], ℕ, List, length, suc, map, drop, get_or, sym, ap, arith, append_assoc, add-one}
+use Rattle.std.proofs.Common.{
+  ◌≡◌,
+  ◌∙◌,
+  ◌++◌,
+  ◌∷◌,
+  ◌+◌,
+  ◌<◌,
+  ◌≤◌,
+  [],
+  ℕ,
+  List,
+  length,
+  suc,
+  map,
+  drop,
+  get_or,
+  refl,
+  sym,
+  ap,
+  subst,
+  arith,
+  append_assoc,
+  append-nil,
+  add-one,
+}
 use Rattle.std.proofs.Math.Seq.{drop-cons}
-use Rattle.slab.specs.Slab.{get}
+use Rattle.std.proofs.lemmas.List.{drop_all}
+use Rattle.slab.specs.Slab.{ContainsKey, get}
 use Rattle.des_queue.specs.Places.{Entry, entry_at, key_there}
 use Rattle.des_queue.proofs.days.add_entries.Goals as goal
 
@@ -17,3 +42,19 @@ loop-place-preserved g c =
       room = omega (arith, c.in-Ok.ensures.len, c.in-Ok.ensures.capacity, c.loop-place.invariant.room);
       capacity = omega (arith, c.in-Ok.ensures.capacity, c.loop-place.invariant.capacity);
     }
+
+pub index-requires : goal.index-requires
+index-requires g c =
+    let i = c.loop-place.place-index in
+    subst (λ (ps : List ℕ). ContainsKey c.args.events.now (get_or ps i 0)) (sym c.deref-place-items.ensures.value)
+    (c.requires.there i 0 (omega (arith, c.loop-place-test.true, c.deref-place-items.ensures.len, c.args.places.now.ok.0)))
+
+pub loop-place-init : goal.loop-place-init
+loop-place-init g c = record { added = refl; room = omega (arith, c.requires.room); capacity = omega arith }
+
+pub returns-clause-added : goal.returns-clause-added
+returns-clause-added g c =
+    let ps = c.args.places.now.items in let i = c.loop-place.place-index in let es = c.loop-place.entries.items in
+    let all : length ps ≤ i = omega (arith, c.loop-place-test.false, c.deref-place-items.ensures.len, c.args.places.now.ok.0) in
+    sym (append-nil es) ∙ ap (λ (ns : List ℕ). es ++ map (entry_at (get c.args.events.now)) ns) (sym (drop_all i ps all))
+    ∙ c.loop-place.invariant.added

@@ -1,13 +1,19 @@
-use Rattle.std.proofs.Common.{◌≡◌, ◌∙◌, sym, ap, refl, ◌+◌, ◌++◌, [], ◌∷◌, List, Option, option_map, Some, Vec, Global}
+use Rattle.std.proofs.Common.{◌≡◌, ◌∙◌, ◌≤◌, sym, ap, arith, refl, subst, ◌+◌, ◌++◌, [], ◌∷◌, IfSome, List, Option, option_map, Some, Vec, Global}
 use Rattle.std.proofs.lemmas.List.{append-nil}
 use Rattle.chord_event.specs.declared.body.Body.{Body}
 use Rattle.chord_event.specs.declared.body.Body.TheVariants as body
 use Rattle.des_event.specs.declared.event.Event.{Event}
+use Rattle.chord_scenario.specs.declared.setting.Churn.{Churn}
 use Rattle.chord_scenario.specs.declared.setting.Span.{Span}
+use Rattle.chord_scenario.specs.Range.{IsChurn, IsSpan, IsSpanUpTo}
 use Rattle.chord_scenario.specs.Start.{at_first, first_span, stabilize_timer, finger_timer, traffic_timer, life_timer, check_timer, first_timers, timers}
 use Rattle.chord_scenario.proofs.Starts.{row-some, row-none, timers_from, no_life, no_span, some_life, no_check, some_check}
 use Rattle.chord_scenario.proofs.scenario.Scenario.push_first_timers.Goals as goal
 use Rattle.chord_scenario.proofs.scenario.Scenario.push_first_timers.Goals.{Joined-churn, in-Some+in_ok-push_timer-3, in_default, then-churn+in-Some-churn_times+in_ok-push_timer-4, then-churn+in_default-churn_times, else-churn}
+
+-- a span that a scenario names is one of a timer
+of_timer : (span : Span) → IsSpan span → IsSpanUpTo 2000000000 span
+of_timer span is = record { positive = is.positive; ordered = is.ordered; bounded = omega (arith, is.bounded) }
 
 -- the events that were pushed before the check, with the timer of its row, are all
 before_check : (c : Joined-churn)
@@ -75,3 +81,45 @@ returns-in_ok-push_timer-5 c =
     sym (append-nil last)
     ∙ row-some sc c.args.node [] (option_map (at_first sc) (check_timer sc 1)) c.if-churn.place (c.if-churn.place + 1) c.if-churn.events.items last all
     (first, body.CheckTick 1) some refl c.in_ok-push_timer-5.ensures (before_check (goal.at.returns-in_ok-push_timer-5 c).Joined-churn)
+
+pub first_span-first-requires : goal.first_span-first-requires
+first_span-first-requires c =
+    of_timer c.in-Some.gap (subst (λ (o : Option Span). IfSome o IsSpan) (sym c.in-Some.ensures) c.recall_range.ensures.lookups)
+
+pub push_timer-requires-in-Some-clause-place : goal.push_timer-requires-in-Some-clause-place
+push_timer-requires-in-Some-clause-place c = omega arith
+
+pub push_timer-requires-in-Some-churn_times-clause-place : goal.push_timer-requires-in-Some-churn_times-clause-place
+push_timer-requires-in-Some-churn_times-clause-place c =
+    let few : c.match-lookups.place ≤ 3 = elim c.match-lookups.branch [
+      | in-Some+in_ok-push_timer-3 w ↦ omega (arith, w.place-is)
+      | in_default w ↦ omega (arith, w.place-is)
+    ] in
+    omega (arith, few)
+
+pub push_timer-requires-in-Some-churn_times-clause-span : goal.push_timer-requires-in-Some-churn_times-clause-span
+push_timer-requires-in-Some-churn_times-clause-span c =
+    let is : IsChurn c.in-Some-churn_times.churn =
+    subst (λ (o : Option Churn). IfSome o IsChurn) (sym c.in-Some-churn_times.ensures) c.recall_range.ensures.churn in
+    of_timer c.in-Some-churn_times.churn.life is.life
+
+pub overflow_add-place-in-Some-churn_times : goal.overflow_add-place-in-Some-churn_times
+overflow_add-place-in-Some-churn_times c =
+    let few : c.match-lookups.place ≤ 3 = elim c.match-lookups.branch [
+      | in-Some+in_ok-push_timer-3 w ↦ omega (arith, w.place-is)
+      | in_default w ↦ omega (arith, w.place-is)
+    ] in
+    omega (arith, few)
+
+pub push_timer-requires-in-Some-check_span-clause-place : goal.push_timer-requires-in-Some-check_span-clause-place
+push_timer-requires-in-Some-check_span-clause-place c =
+    let few : c.match-lookups.place ≤ 3 = elim c.match-lookups.branch [
+      | in-Some+in_ok-push_timer-3 w ↦ omega (arith, w.place-is)
+      | in_default w ↦ omega (arith, w.place-is)
+    ] in
+    let all : c.if-churn.place ≤ 4 = elim c.if-churn.branch [
+      | then-churn+in-Some-churn_times+in_ok-push_timer-4 w ↦ omega (arith, few, w.place-is)
+      | then-churn+in_default-churn_times w ↦ omega (arith, few, w.place-is)
+      | else-churn w ↦ omega (arith, few, w.place-is)
+    ] in
+    omega (arith, all)

@@ -1,7 +1,7 @@
-use Rattle.std.proofs.Common.{◌≡◌, ◌∙◌, ◌-◌, ◌<◌, ◌++◌, arith, sym, ap, map, Vec, Global}
+use Rattle.std.proofs.Common.{◌≡◌, ◌∙◌, ◌-◌, ◌<◌, ◌++◌, ℕ, arith, append-nil, filter, sym, ap, map, Vec, Global}
 use Rattle.chord_event.specs.declared.body.Body.{Body}
 use Rattle.des_event.specs.declared.event.Event.{Event}
-use Rattle.std.specs.List.{enumerate_from, flat_map}
+use Rattle.std.specs.List.{enumerate_from, flat_map, range_with_len}
 use Rattle.chord_scenario.specs.Setup.{Setup}
 use Rattle.chord_scenario.specs.Start.{command_event, command_events, first_timers, initial_nodes, start_events}
 use Rattle.chord_scenario.specs.World.{node_count, is_initial}
@@ -33,3 +33,12 @@ loop-node-preserved c =
           pass_over (first_timers sc) (is_initial sc) c.loop-node.events.items at (node_count sc) within c.if-initial.events.items (start_events sc)
           (sym c.initial.ensures ∙ w.if-initial.false) (ap (λ (v : Vec (Event Body) Global). v.items) w.events-is) c.loop-node.invariant
     ]
+
+pub returns : goal.returns
+returns c =
+    let sc = c.args.self.now in
+    let at = c.loop-node.node in
+    let done = c.loop-node.events.items in
+    let none : node_count sc - at ≡ 0 = omega (arith, c.nodes-node-end.ensures, c.loop-node-test.false) in
+    sym (append-nil done) ∙ ap (λ (n : ℕ). done ++ flat_map (first_timers sc) (filter (is_initial sc) (range_with_len at n))) (sym none)
+    ∙ c.loop-node.invariant

@@ -1,11 +1,14 @@
-use Rattle.std.proofs.Common.{◌≡◌, ◌∙◌, ◌∷◌, sym, ap, subst}
+use Rattle.std.proofs.Common.{◌≡◌, ◌∙◌, ◌∷◌, [], List, append-nil, arith, refl, sym, ap, subst}
+use Rattle.std.specs.Prelude.{IsSome}
 use Rattle.slab.specs.Slab.{Slab, get}
 use Rattle.des_event.specs.declared.event.Event.{Event}
 use Rattle.des_event.specs.KeyOrder.{IsNewKey}
 use Rattle.des_queue.specs.Calendar.{AreOrderly, events_of}
 use Rattle.des_queue.specs.EventKey.{event_key}
+use Rattle.des_queue.specs.Places.{Entry}
 use Rattle.des_queue.specs.declared.days.Days.{Days}
-use Rattle.des_queue.proofs.Calendars.{IsTaken, freed_orderly, taken_due}
+use Rattle.des_queue.proofs.Calendars.{IsTaken, freed_orderly, none_orderly, taken_due}
+use Rattle.des_queue.proofs.Inserting.{empty}
 use Rattle.des_queue.proofs.calendar.Calendar.pop_first.Goals as goal
 
 pub refill-requires : goal.refill-requires
@@ -41,3 +44,17 @@ pub returns : goal.returns
 returns g c =
     sym c.self.view_is ∙ (taken g c).first
     ∙ (λ i. sym (same g c) i ∷ (sym c.refill.ensures.same ∙ sym (freed g c).1) i)
+
+pub remove-requires : goal.remove-requires
+remove-requires g c =
+    let q = c.self.inside in let out = c.in_ok-waiting in let place = out.waiting.place in
+    let there = (taken_due q.due c.pop.new.self q.days out.waiting c.self.invariant.orderly out.ensures.items out.ensures.capacity).there in
+    subst IsSome (sym (ap (λ (s : Slab (Event _)). get s place) c.refill.ensures.kept ∙ there)) refl
+
+pub returns-in_err-waiting : goal.returns-in_err-waiting
+returns-in_err-waiting g c =
+    let q = c.self.inside in let out = c.in_err-waiting.ensures in
+    let none : q.due.items ≡ [] = empty q.due.items (omega (arith, out.cases.0, q.due.ok.0)) in
+    let all = (none_orderly q.due q.days none (c.self.invariant.whole none) c.self.invariant.orderly.days).1 in
+    let same : c.pop.new.self.items ≡ q.due.items = sym (out.items ∙ append-nil c.pop.new.self.items) in
+    rw c.from_residual.ensures (sym c.self.view_is ∙ all, ap (λ (ws : List Entry). events_of ws q.days) same ∙ all)
