@@ -188,7 +188,7 @@ fn run_to<T: AllocGlobal + Threads + Wait + Sync, R: Read, Q: Read, V: Write + D
 }
 
 /// A buffer in front of a writer. The only error is a failed allocation.
-pub(crate) fn buffered<V: Write + Drop>(alloc: Global, writer: V) -> Result<BufWriter<V>, PlayFault>
+fn buffered<V: Write + Drop>(alloc: Global, writer: V) -> Result<BufWriter<V>, PlayFault>
     ensures memory { IfErr result (λ fault. fault ≡ PlayFault.Run RunError.Memory) }
     ensures inner { IfOk result (λ buffer. writer_inner buffer ≡ writer) }
 {

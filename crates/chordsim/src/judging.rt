@@ -3,16 +3,16 @@ ghost use Rattle.std.specs.Prelude.{◌≡◌, ◌⊎◌, false};
 ghost use Rattle.std.specs.Process.{exit_status};
 ghost use Rattle.des_output.specs.Watched.{has_failed};
 
-use crate::execution::{buffered, open};
+use crate::execution::open;
 use crate::status::conclude;
 use chord_command::{Files, Judging};
 use chord_event::RunError;
 use chord_judge::{Digest, Digested, TableFault, edges_in, judge_trace};
-use chord_play::{PlayFault, load, or_write_fault};
+use chord_play::{PlayFault, load};
 use chord_scenario::Scenario;
 use chord_trace::Watched;
 use std::alloc::Global;
-use std::io::{Read, Write};
+use std::io::{BufWriter, Read, Write};
 use std::process::ExitCode;
 use std::rt::Files as FileSystem;
 use std::{fs, io};
@@ -63,13 +63,14 @@ pub fn judge<T: FileSystem + AllocGlobal + Input, C: Print>(
 ) -> Result<(), JudgeFailure> {
     let digest = digest_of(rt.alloc(), judging)?;
     let scenario = scenario_of(rt, files)?;
-    match &judging.trace {
+    let judged = match &judging.trace {
         Some(name) => match fs::open(rt, name.as_str()) {
             Ok(file) => judge_from(rt, console, &scenario, file, digest),
-            Err(_) => Err(JudgeFailure::Read),
+            Err(_) => Err(TableFault::Read),
         },
         None => judge_from(rt, console, &scenario, rt.reader(), digest),
-    }
+    };
+    Ok(judged?)
 }
 
 /// Opens the files, and reads their scenario.
@@ -105,15 +106,28 @@ fn judge_from<T: FileSystem + AllocGlobal, C: Print, R: Read + Drop>(
     scenario: &Scenario,
     trace: R,
     digest: Option<DigestFile<'_>>,
-) -> Result<(), JudgeFailure> {
-    let Some(DigestFile { name, edges }) = digest else {
-        return judge_to(rt, console, scenario, &mut Watched::new(trace));
+) -> Result<(), TableFault> {
+    match digest {
+        Some(digest) => judge_and_digest(rt, console, scenario, trace, digest),
+        None => judge_to(rt, console, scenario, &mut Watched::new(trace)),
+    }
+}
+
+/// Judges a trace, and writes its digest.
+fn judge_and_digest<T: FileSystem + AllocGlobal, C: Print, R: Read + Drop>(
+    rt: &T,
+    console: &C,
+    scenario: &Scenario,
+    trace: R,
+    digest: DigestFile<'_>,
+) -> Result<(), TableFault> {
+    let Ok(file) = fs::create(rt, digest.name) else {
+        return Err(TableFault::Write);
     };
-    let file = or_write_fault(fs::create(rt, name))?;
-    let digest = Digest::new(rt.alloc(), edges);
+    let digest = Digest::new(rt.alloc(), digest.edges);
     let mut trace = Watched::new(Digested::new(trace, digest, file));
     judge_to(rt, console, scenario, &mut trace)?;
-    Ok(trace.into_inner().finish()?)
+    trace.into_inner().finish()
 }
 
 /// Judges with a buffer in front of the console, which is written to in every case.
@@ -122,12 +136,18 @@ fn judge_to<T: AllocGlobal, C: Print, R: Read>(
     console: &C,
     scenario: &Scenario,
     trace: &mut Watched<R>,
-) -> Result<(), JudgeFailure> {
-    let mut output = Watched::new(buffered(rt.alloc(), io::writer(console))?);
+) -> Result<(), TableFault> {
+    let Ok(buffer) = BufWriter::new(rt.alloc(), io::writer(console)) else {
+        return Err(TableFault::Memory);
+    };
+    let mut output = Watched::new(buffer);
     let judged = judge_trace(rt.alloc(), scenario, trace, &mut output);
-    let flushed = or_write_fault(output.flush());
+    let flushed = output.flush();
     judged?;
-    Ok(flushed?)
+    if flushed.is_err() {
+        return Err(TableFault::Write);
+    }
+    Ok(())
 }
 
 /// The status of a judgement. If the table was not written to its end, standard error says why.
