@@ -58,23 +58,7 @@ impl Askers {
         let Some(asker) = self.by_name.get_mut(name) else {
             return false;
         };
-        let (Some(call), Some(since)) = (
-            number_after(b"call=", call),
-            number_after(b"since=", since),
-        ) else {
-            return false;
-        };
-        let Some(place) = place_of(asker.lookups.as_slice(), key, since) else {
-            return false;
-        };
-        let Some(lookup) = asker.lookups.get_mut(place) else {
-            return false;
-        };
-        if !is_number(lookup.newest, call) {
-            lookup.calls = lookup.calls.saturating_add(1);
-            lookup.newest = Some(call);
-        }
-        true
+        count_request(asker.lookups.as_mut_slice(), call, key, since)
     }
 
     /// A node asks a successor for its state, by this line.
@@ -87,12 +71,8 @@ impl Askers {
             asker.stabilization = stabilization;
             return Ok(());
         }
-        let asker = Asker {
-            lookups: Vec::new(self.alloc),
-            stabilization,
-        };
-        self.by_name.insert(copy_of(self.alloc, name)?, asker)?;
-        Ok(())
+        let lookups = Vec::new(self.alloc);
+        self.add(name, lookups, stabilization)
     }
 
     /// The newest line by which a node asked a successor for its state.
@@ -122,11 +102,22 @@ impl Askers {
         }
         let mut lookups = Vec::new(self.alloc);
         lookups.push(lookup)?;
+        self.add(name, lookups, None)
+    }
+
+    /// Adds a node that had asked for nothing.
+    fn add(
+        &mut self,
+        name: &[u8],
+        lookups: Vec<Asked>,
+        stabilization: Option<Stabilization>,
+    ) -> Result<(), Memory> {
+        let name = copy_of(self.alloc, name)?;
         let asker = Asker {
             lookups,
-            stabilization: None,
+            stabilization,
         };
-        self.by_name.insert(copy_of(self.alloc, name)?, asker)?;
+        self.by_name.insert(name, asker)?;
         Ok(())
     }
 
@@ -155,6 +146,24 @@ impl Askers {
             asker.lookups.clear();
         }
     }
+}
+
+/// Counts a request, if it is for one of these lookups. Returns whether it is for one of them.
+#[inline(always)]
+fn count_request(lookups: &mut [Asked], call: &[u8], key: &[u8], since: &[u8]) -> bool {
+    let (Some(call), Some(since)) = (number_after(b"call=", call), number_after(b"since=", since))
+    else {
+        return false;
+    };
+    let Some(place) = place_of(lookups, key, since) else {
+        return false;
+    };
+    let lookup = &mut lookups[place];
+    if !is_number(lookup.newest, call) {
+        lookup.calls = lookup.calls.saturating_add(1);
+        lookup.newest = Some(call);
+    }
+    true
 }
 
 /// Whether it is this number.

@@ -74,13 +74,6 @@ impl<'a> Judge<'a> {
         })
     }
 
-    /// The scenario of the trace.
-    pub fn scenario(&self) -> &'a Scenario
-        ensures { result.now ≡ setup_of self.now }
-    {
-        self.members.scenario
-    }
-
     /// Takes the next line, and adds the rows of the lookups that it ends.
     #[tactic(auto, using(crate::proofs::InProgress::askers_without))]
     pub fn read(&mut self, told: Told, rows: &mut Vec<Row>) -> Result<(), JudgeFault>
