@@ -29,4 +29,4 @@ pub use part_order::{empty_slots, take_out};
 #[doc(hidden)]
 pub use part_run::PartRun;
 #[doc(hidden)]
-pub use world::{PartEvents, expect_division, fill, no_events};
+pub use world::{PartEvents, empty_parts, expect_division, fill_parts};

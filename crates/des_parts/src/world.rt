@@ -61,7 +61,7 @@ impl<B: Drop> PartEvents<B> {
 }
 
 /// `parts` parts without events.
-pub fn no_events<B: Drop>(alloc: Global, parts: u32) -> Result<Vec<PartEvents<B>>, Memory>
+pub fn empty_parts<B: Drop>(alloc: Global, parts: u32) -> Result<Vec<PartEvents<B>>, Memory>
     ensures long { IfOk result (λ list. length list.items ≡ parts) }
     ensures none { IfOk result (λ list. AllByRecursion (λ e. e.later ≡ []) list.items) }
 {
@@ -96,9 +96,9 @@ impl<T: Drop, B: Drop> World<T, B> {
         expect_division(machine, division)?;
         let clock = AuditClock::new(machine.audit_times(alloc)?);
         let states = machine.start_states(alloc)?;
-        let mut parts = no_events(alloc, division.parts())?;
+        let mut parts = empty_parts(alloc, division.parts())?;
         let events = machine.start_events(alloc)?;
-        let opening = fill(machine, &clock, division, &mut parts, events)?;
+        let opening = fill_parts(machine, &clock, division, &mut parts, events)?;
         Ok(World {
             count: 0,
             // A copy, so that a world borrows nothing.
@@ -137,7 +137,7 @@ pub fn expect_division<M: Machine>(machine: &M, division: &Division) -> Result<(
 }
 
 /// Gives all pending events of a run to parts that have none, and opens the next window.
-pub fn fill<M: Machine>(
+pub fn fill_parts<M: Machine>(
     machine: &M,
     clock: &AuditClock,
     division: &Division,

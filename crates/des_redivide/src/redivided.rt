@@ -5,7 +5,7 @@ ghost use Rattle.des_parts.specs.Worlds.{IsWorldOf};
 use crate::events::all_events;
 use des_event::RunError;
 use des_machine::Machine;
-use des_parts::{World, expect_division, fill, no_events};
+use des_parts::{World, empty_parts, expect_division, fill_parts};
 use des_window::Division;
 use std::alloc::Global;
 use std::mem;
@@ -59,10 +59,10 @@ pub fn divide_again<M: Machine>(
 {
     machine.recall();
     expect_division(machine, division)?;
-    let parts = mem::replace(&mut world.parts, no_events(alloc, division.parts())?);
+    let parts = mem::replace(&mut world.parts, empty_parts(alloc, division.parts())?);
     let events = all_events(alloc, parts)?;
     // This finds the next window again. It is the one that the world had.
-    world.opening = fill(machine, &world.clock, division, &mut world.parts, events)?;
+    world.opening = fill_parts(machine, &world.clock, division, &mut world.parts, events)?;
     world.division = division.try_clone()?;
     Ok(())
 }

@@ -8,8 +8,8 @@ use Rattle.des_parts.specs.Worlds.{StandAfter, events_of}
 use Rattle.des_parts.proofs.Standing.{world_stands}
 use Rattle.des_redivide.proofs.redivided.divide_again.Goals as goal
 
-pub fill-requires-clause-stand : goal.fill-requires-clause-stand
-fill-requires-clause-stand g c =
+pub fill_parts-requires-clause-stand : goal.fill_parts-requires-clause-stand
+fill_parts-requires-clause-stand g c =
     let k = c.args.machine.now in
     let m = g.M.Machine.model k in (
       c.args.world.now.count,
@@ -27,7 +27,7 @@ returns-clause-world g c =
       count = c.args.world.now.count;
       division = c.in_ok-world-2.field-0;
       states = c.args.world.now.states;
-      parts = c.fill.new.parts;
+      parts = c.fill_parts.new.parts;
       clock = c.args.world.now.clock;
       opening = c.in_ok-world.field-0;
     } in
@@ -39,11 +39,11 @@ returns-clause-world g c =
 pub returns-clause-opening : goal.returns-clause-opening
 returns-clause-opening g c = (returns-clause-world g c).opening_is ∙ sym c.requires.world.opening_is
 
-pub fill-requires-clause-long : goal.fill-requires-clause-long
-fill-requires-clause-long g c = rw c.replace-parts.ensures.after (c.in_ok-no_events.ensures.long ∙ c.parts.ensures)
+pub fill_parts-requires-clause-long : goal.fill_parts-requires-clause-long
+fill_parts-requires-clause-long g c = rw c.replace-parts.ensures.after (c.in_ok-empty_parts.ensures.long ∙ c.parts.ensures)
 
-pub fill-requires-clause-none : goal.fill-requires-clause-none
-fill-requires-clause-none g c = rw c.replace-parts.ensures.after c.in_ok-no_events.ensures.none
+pub fill_parts-requires-clause-none : goal.fill_parts-requires-clause-none
+fill_parts-requires-clause-none g c = rw c.replace-parts.ensures.after c.in_ok-empty_parts.ensures.none
 
 pub returns-clause-count : goal.returns-clause-count
 returns-clause-count g c = refl

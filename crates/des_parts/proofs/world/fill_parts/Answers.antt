@@ -5,7 +5,7 @@ use Rattle.des_parts.specs.declared.world.PartEvents.{PartEvents}
 use Rattle.des_parts.specs.Delivery.{HasOpened}
 use Rattle.des_parts.proofs.NextWorld.{divided_ahead, events_deliver, events_targets, world_divided}
 use Rattle.des_parts.proofs.Standing.{stand_sorted}
-use Rattle.des_parts.proofs.world.fill.Goals as goal
+use Rattle.des_parts.proofs.world.fill_parts.Goals as goal
 
 pub deliver-requires-clause-targets : goal.deliver-requires-clause-targets
 deliver-requires-clause-targets g c =

@@ -1,7 +1,7 @@
 use Rattle.std.proofs.Common.{◌≡◌, length, ap, subst, sym, arith, length-append, ◌∷◌, ◌++◌, [], List}
 use Rattle.std.specs.List.{AllByRecursion}
 use Rattle.des_parts.specs.declared.world.PartEvents.{PartEvents}
-use Rattle.des_parts.proofs.world.no_events.Goals as goal
+use Rattle.des_parts.proofs.world.empty_parts.Goals as goal
 
 push_none : {B : Type 0} (xs : List (PartEvents B)) (x : PartEvents B) → AllByRecursion (λ (e : PartEvents _). e.later ≡ []) xs → x.later ≡ []
     → AllByRecursion (λ (e : PartEvents _). e.later ≡ []) (xs ++ x ∷ [])
