@@ -60,3 +60,19 @@ returns g c =
           c.loop-event.invariant.dealt);
       first = subst (λ (l : List (Event _)). LeastTimeIs l c.loop-event.first) all c.loop-event.invariant.least;
     }
+
+pub index_mut-requires : goal.index_mut-requires
+index_mut-requires g c =
+    let d = c.args.layout.now.division in
+    let event = c.in-Some.event in
+    let target : event.target < length d.of_node = next_has (λ (x : Event _). x.target < length d.of_node) c.loop-event.yielded
+    (into_iter_items c.loop-event.event-iterator) c.args.events.items event (into_iter_items c.next.new.self) c.requires.nodes
+    c.loop-event.invariant.whole c.in-Some.ensures.steps.0 in
+    omega (
+      arith,
+      c.requires.below event.target 0 target,
+      c.requires.parts,
+      c.part_of-part.ensures,
+      c.loop-event.invariant.dealt.long,
+      c.loop-event.parts.ok.0,
+    )

@@ -1,6 +1,7 @@
-use Rattle.std.proofs.Common.{◌≡◌, ◌∙◌, ◌-◌, ◌+◌, ◌<◌, ◌≤◌, ◌++◌, ◌∷◌, [], ℕ, Bool, List, cond, nat_lt, ◌&&◌, length, get_or, take, sym, ap, subst, arith}
-use Rattle.std.proofs.lemmas.List.{take_more}
+use Rattle.std.proofs.Common.{◌≡◌, ◌∙◌, ◌-◌, ◌+◌, ◌<◌, ◌≤◌, ◌++◌, ◌∷◌, [], ℕ, Bool, List, cond, nat_lt, ◌&&◌, length, get_or, take, refl, sym, ap, subst, arith}
+use Rattle.std.proofs.lemmas.List.{take_all, take_more}
 use Rattle.chord_judge.proofs.Walked.{HasWalked, walked_all, walked_on, walked_right, walked_stop}
+use Rattle.chord_judge.specs.Members.{is_member_after}
 use Rattle.chord_judge.specs.Owners.{way}
 use Rattle.chord_judge.specs.declared.members.Change.{Change}
 use Rattle.chord_judge.specs.declared.told.Told.{Told}
@@ -32,6 +33,18 @@ returns-then-change-begun c = λ lines hold told.
     c.index-change.ensures (c.loop-left.invariant.walked lines hold told))
     (sym c.is_first.ensures ∙ c.if-is_first.false) c.if-change-begun.true
 
+pub loop-left-init : goal.loop-left-init
+loop-left-init c = record {
+  within = omega (arith, c.len-left.ensures);
+  walked = λ lines hold told. record {
+    before = lines;
+    changes = sym told ∙ sym (take_all c.len-left.result c.args.self.now.changes.items (omega (arith, c.len-left.ensures)));
+    there = c.contains-is_member.ensures ∙ hold c.args.node c.requires.node;
+    count = c.nearer_count-nearer.ensures (is_member_after c.args.self.now.members.scenario.now lines) hold;
+    same = refl;
+  };
+}
+
 pub loop-left-preserved : goal.loop-left-preserved
 loop-left-preserved c = record {
   within = omega (arith, c.loop-left.invariant.within);
@@ -61,3 +74,10 @@ returns c = λ lines hold told.
     let none : take c.loop-left.left c.args.self.now.changes.items ≡ [] = ap (λ (n : ℕ). take n c.args.self.now.changes.items) zero in
     c.is_first-2.ensures ∙ walked_all sc c.args.begun c.args.key c.args.node lines c.loop-left.is_member c.loop-left.nearer
     (subst (λ (l : List Change). HasWalked sc c.args.begun c.args.key c.args.node lines l c.loop-left.is_member c.loop-left.nearer) none (c.loop-left.invariant.walked lines hold told))
+
+pub way-way-requires : goal.way-way-requires
+way-way-requires c = record {
+  key = c.requires.key;
+  node = subst (λ (x : Change). x.node < node_count c.args.self.now.members.scenario.now) (sym c.index-change.ensures)
+      (c.args.self.now.changed (c.loop-left.left - 1) c.index-change.result.now (omega (arith, c.loop-left-test.true, c.loop-left.invariant.within)));
+}

@@ -1,6 +1,8 @@
 use Rattle.std.proofs.Common.{◌≡◌, ◌∙◌, ◌<◌, ◌≤◌, ◌-◌, ◌^◌, ℕ, Bool, List, Option, Some, None, drop, take, length, get_or, sym, ap, subst, true, false, arith, ltb, ltb-true, ltb-false, rules}
 use Rattle.std.proofs.lemmas.List.{take_rest}
+use Rattle.std.specs.List.{All}
 use Rattle.std.specs.List.Sorted.{IsNonDecreasingBy, IsPartitionPoint}
+use Rattle.std.proofs.lemmas.List.Elements.{All-drop, All-take}
 use Rattle.std.proofs.lemmas.List.Sorted.{IsPartitionPoint-from_clause, IsPartitionedBy-ltb}
 use Rattle.chord_judge.proofs.Scans.{IsSearch, scanned_ahead, scanned_behind, scanned_none}
 use Rattle.chord_judge.specs.Owners.{right_owner}
@@ -38,6 +40,30 @@ from_slice : (marks seen_marks : List Bool) (places seen : List Place) (s : ℕ)
     → first_marked seen_marks (take (length seen - s) (drop s seen)) ≡ first_marked marks (drop s places)
 from_slice marks seen_marks places seen s m p =
     ap (first_marked seen_marks) (take_rest seen s) ∙ ap (λ (l : List Bool). first_marked l (drop s seen)) m ∙ ap (λ (l : List Place). first_marked marks (drop s l)) p
+
+-- the nodes of all places have marks
+are_marked : (sc : Setup) (places seen : List Place) (marks seen_marks : List Bool) → AreAllPlaces sc places → length marks ≡ node_count sc
+    → seen_marks ≡ marks → seen ≡ places → All (λ (p : Place). p.node < length seen_marks) seen
+are_marked sc places seen marks seen_marks placed long m p =
+    let many : length seen_marks ≡ node_count sc = ap length m ∙ long in
+    subst (All (λ (p : Place). p.node < length seen_marks)) (sym p)
+    (λ k d low. subst (λ (n : ℕ). (get_or places k d).node < n) (sym many) (placed.each k d low).node)
+
+pub first_marked-requires : goal.first_marked-requires
+first_marked-requires c =
+    let s = c.partition_point-start.result in
+    let seen = c.deref-2.result.now in
+    let IsMarked : Place → Type 0 = λ p. p.node < length c.as_slice.result.now in
+    All-take IsMarked (length seen - s) (drop s seen) (All-drop IsMarked s seen
+    (are_marked c.args.self.now.scenario.now c.args.self.now.places.items seen c.args.self.now.marks.items c.as_slice.result.now c.args.self.now.placed
+    c.args.self.now.marked c.as_slice.ensures.value c.deref-2.ensures.value))
+
+pub first_marked-requires-in-None : goal.first_marked-requires-in-None
+first_marked-requires-in-None c =
+    let seen = c.deref-in-None.result.now in
+    All-take (λ (p : Place). p.node < length c.as_slice-in-None.result.now) c.partition_point-start.result seen
+    (are_marked c.args.self.now.scenario.now c.args.self.now.places.items seen c.args.self.now.marks.items c.as_slice-in-None.result.now
+    c.args.self.now.placed c.args.self.now.marked c.as_slice-in-None.ensures.value c.deref-in-None.ensures.value)
 
 pub returns-in-Some : goal.returns-in-Some
 returns-in-Some c = λ member hold.

@@ -1,4 +1,5 @@
-use Rattle.std.proofs.Common.{◌∙◌, ◌<◌, ◌++◌, ◌∷◌, [], refl, ap, sym, subst, arith, length, reverse}
+use Rattle.std.proofs.Common.{◌∙◌, ◌<◌, ◌++◌, ◌∷◌, [], Err, Ok, Result, refl, ap, sym, subst, arith, length, reverse}
+use Rattle.std.specs.Prelude.{IfOk, IsErrAnd}
 use Rattle.des_event.specs.declared.event.Event.{Event}
 use Rattle.des_model.specs.Windows.{part_of}
 use Rattle.des_queue.proofs.Inserting.{empty}
@@ -6,6 +7,11 @@ use Rattle.des_team.specs.declared.part.OwnedPart.{OwnedPart}
 use Rattle.des_team.specs.Running.{HasSent}
 use Rattle.des_team.proofs.Sending.{all_are_sent, last_is_next, next_has, next_is_new, sending_from, sends_on, sent_away, sent_here}
 use Rattle.des_team.proofs.part.OwnedPart.send.Goals as goal
+
+-- of a result that is an error, what it says of values holds
+no_value : {X E : Type 0} (r : Result X E) (Q : E → Type 0) (P : X → Type 0) → IsErrAnd r Q → IfOk r P
+no_value (Ok x) Q P is = absurd is
+no_value (Err e) Q P is = tt
 
 pub loop-event-init : goal.loop-event-init
 loop-event-init g c = record {
@@ -73,3 +79,42 @@ pub returns-clause-sent : goal.returns-clause-sent
 returns-clause-sent g c =
     all_are_sent c.args.layout.now.division c.args.made.now.items c.loop-event.made.items c.args.self.now c.loop-event.self c.loop-event.soonest
     c.loop-event.invariant.sending (empty c.loop-event.made.items (omega (arith, c.in_default.ensures.cases.0, c.loop-event.made.ok.0)))
+
+pub returns-in_err-push-clause-part : goal.returns-in_err-push-clause-part
+returns-in_err-push-clause-part g c = ap (λ (p : OwnedPart _ _ _ _ _). p.part) c.loop-event.invariant.others
+
+pub returns-in_err-push-clause-states : goal.returns-in_err-push-clause-states
+returns-in_err-push-clause-states g c = ap (λ (p : OwnedPart _ _ _ _ _). p.states) c.loop-event.invariant.others
+
+pub returns-in_err-push-clause-inbox : goal.returns-in_err-push-clause-inbox
+returns-in_err-push-clause-inbox g c = ap (λ (p : OwnedPart _ _ _ _ _). p.inbox) c.loop-event.invariant.others
+
+pub returns-in_err-push-clause-scribe : goal.returns-in_err-push-clause-scribe
+returns-in_err-push-clause-scribe g c = ap (λ (p : OwnedPart _ _ _ _ _). p.scribe) c.loop-event.invariant.others
+
+pub returns-in_err-push-clause-sent : goal.returns-in_err-push-clause-sent
+returns-in_err-push-clause-sent g c = no_value c.from_residual.result _ _ c.from_residual.ensures.1
+
+pub returns-in-Err-clause-part : goal.returns-in-Err-clause-part
+returns-in-Err-clause-part g c = ap (λ (p : OwnedPart _ _ _ _ _). p.part) c.loop-event.invariant.others
+
+pub returns-in-Err-clause-states : goal.returns-in-Err-clause-states
+returns-in-Err-clause-states g c = ap (λ (p : OwnedPart _ _ _ _ _). p.states) c.loop-event.invariant.others
+
+pub returns-in-Err-clause-inbox : goal.returns-in-Err-clause-inbox
+returns-in-Err-clause-inbox g c = ap (λ (p : OwnedPart _ _ _ _ _). p.inbox) c.loop-event.invariant.others
+
+pub returns-in-Err-clause-scribe : goal.returns-in-Err-clause-scribe
+returns-in-Err-clause-scribe g c = ap (λ (p : OwnedPart _ _ _ _ _). p.scribe) c.loop-event.invariant.others
+
+pub returns-clause-part : goal.returns-clause-part
+returns-clause-part g c = ap (λ (p : OwnedPart _ _ _ _ _). p.part) c.loop-event.invariant.others
+
+pub returns-clause-states : goal.returns-clause-states
+returns-clause-states g c = ap (λ (p : OwnedPart _ _ _ _ _). p.states) c.loop-event.invariant.others
+
+pub returns-clause-inbox : goal.returns-clause-inbox
+returns-clause-inbox g c = ap (λ (p : OwnedPart _ _ _ _ _). p.inbox) c.loop-event.invariant.others
+
+pub returns-clause-scribe : goal.returns-clause-scribe
+returns-clause-scribe g c = ap (λ (p : OwnedPart _ _ _ _ _). p.scribe) c.loop-event.invariant.others
