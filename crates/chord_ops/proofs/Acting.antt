@@ -30,12 +30,12 @@ goes_further made drawn more again events words old mid new first second room pl
       place = omega (arith, first.place, second.place, place);
     }
 
--- what follows from what holds where all went well
+-- what follows from what holds if no allocation failed
 pub when_ok : {A E P Q : Type 0} (r : Result A E) → (P → Q) → OnOk r P → OnOk r Q
 when_ok (Ok x) f p = f p
 when_ok (Err e) f p = tt
 
--- what a turn is where all went well
+-- what a turn is if no allocation failed
 pub equal_on_ok : {A E : Type 0} (r : Result A E) (new made wanted : Turn) → made ≡ wanted → OnOk r (new ≡ made) → OnOk r (new ≡ wanted)
 equal_on_ok (Ok x) new made wanted same is = is ∙ same
 equal_on_ok (Err e) new made wanted same is = tt
