@@ -149,7 +149,6 @@ impl Askers {
 }
 
 /// Counts a request, if it is for one of these lookups. Returns whether it is for one of them.
-#[inline(always)]
 fn count_request(lookups: &mut [Asked], call: &[u8], key: &[u8], since: &[u8]) -> bool {
     let (Some(call), Some(since)) = (number_after(b"call=", call), number_after(b"since=", since))
     else {
