@@ -54,6 +54,14 @@ impl<T> Listed<T> {
         self.items.as_slice()
     }
 
+    /// Makes room for exactly this many items more, if there is less.
+    pub fn reserve_exact(&mut self, additional: usize) -> Result<(), Memory>
+        ensures { self.new ≡ self.old }
+    {
+        self.items.reserve_exact(additional)?;
+        Ok(())
+    }
+
     pub fn push(&mut self, item: T) -> Result<(), Memory>
     where
         T: Drop,
