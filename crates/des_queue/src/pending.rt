@@ -90,6 +90,7 @@ impl<B: Drop> Pending<B> {
 
     /// Adds the events of a list, which is empty afterwards and keeps its memory. After an error
     /// some of them may have been added: no caller goes on after that.
+    #[inline(always)]
     pub fn insert_from(&mut self, events: &mut Vec<Event<B>>) -> Result<(), Memory>
         requires { AllPairs (λ a b. a.key ≢ b.key) (self.old ++ events.old.items) }
         ensures same { OnOk result ((x : AnEvent B) → Contains self.new x ↔ Contains (self.old ++ events.old.items) x) }

@@ -52,6 +52,8 @@ impl<M: Machine, S: Scribe<M> + Drop> SerialEngine<M, S> {
 
     /// Takes the next event of the run, or returns `None` if the run has no more. Returns
     /// `TooManyEvents` if an event is left but the run may have no more.
+    // Inlined, since a call would copy the event twice more.
+    #[inline(always)]
     pub fn take_next(&mut self, machine: &M) -> Result<Option<Event<M::Body>>, RunError>
         ensures next { IfOk result (λ next. IfSome next (λ event. (old now : Option (List ℕ)) → IsAt (S.text machine.now) (M.model machine.now) (S.HasCounted machine.now) old now self.old → HasTaken (S.text machine.now) (M.model machine.now) (S.HasCounted machine.now) old now self.new event)) }
         ensures ended { result ≡ Ok None → (self.new ≡ self.old) × All (λ e. (M.model machine.now).duration ≤ e.key.time) self.new.pending }
