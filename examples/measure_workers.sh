@@ -9,6 +9,8 @@
 #
 # CHORDSIM names another program than ./chordsim.
 set -eu
+# All programs have large pages, as ./chordsim has.
+export GLIBC_TUNABLES="${GLIBC_TUNABLES-glibc.malloc.hugetlb=1}"
 top=$(CDPATH='' cd -- "$(dirname -- "$0")/.." && pwd)
 # The launcher takes time of its own, so the program that it would start is timed.
 program=${CHORDSIM:-$("$top/chordsim" --where)}

@@ -11,7 +11,7 @@ from typing import NamedTuple
 from chordsim.errors import Failed, Refused, failures_raised, refused_argument
 from chordsim_tools.explain.command import explanations
 from chordsim_tools.explain.files import Explanation
-from chordsim_tools.program import find_program
+from chordsim_tools.program import environment, find_program
 from chordsim_tools.scenario.tables import GREATEST_SIZE
 
 REMEDIES = {
@@ -59,7 +59,9 @@ def output_of(files: Files, command: str, *options: str) -> str:
                 file = Path(folder) / name
                 file.write_bytes(content)
                 arguments += [f"--{name}", str(file)]
-        done = subprocess.run([*arguments, *options], capture_output=True, text=True, errors="replace", check=False)
+        done = subprocess.run(
+            [*arguments, *options], env=environment(), capture_output=True, text=True, errors="replace", check=False
+        )
     if done.returncode != 0:
         raise ended(done.returncode, done.stderr.strip(), files)
     return done.stdout

@@ -11,7 +11,7 @@ from typing import NoReturn
 from chordsim_tools.cli import Failure, ended
 from chordsim_tools.files import reason
 from chordsim_tools.place import IS_INSTALLED
-from chordsim_tools.program import LAUNCHER, packaged_program
+from chordsim_tools.program import LAUNCHER, environment, packaged_program
 
 NO_PROGRAM = 125
 """The status if there is no whole program. The program itself never returns it."""
@@ -44,6 +44,6 @@ def become(program: Path) -> NoReturn:
     for number in (signal.SIGPIPE, signal.SIGXFSZ):
         signal.signal(number, signal.SIG_DFL)
     try:
-        os.execv(program, ["chordsim", *sys.argv[1:]])
+        os.execve(program, ["chordsim", *sys.argv[1:]], environment())
     except OSError as fault:
         raise Failure(3, f"cannot run {program}: {reason(fault)}") from None

@@ -223,6 +223,14 @@ class Launcher(unittest.TestCase):
                 self.assertEqual(self.start("chordsim", *asked).stdout, text)
         self.assertEqual(self.builds(), 1)
 
+    def test_large_pages(self) -> None:
+        """The program has large pages, unless the user's variable says something else, or nothing."""
+        self.change("chordsim", "main.rt", "$GLIBC_TUNABLES\n")
+        self.assertEqual(self.start("chordsim", "ids").stdout, "built of glibc.malloc.hugetlb=1: ids\n")
+        for own in ("glibc.malloc.hugetlb=0", ""):
+            with self.subTest(own=own):
+                self.assertEqual(self.start("chordsim", "ids", GLIBC_TUNABLES=own).stdout, f"built of {own}: ids\n")
+
     def test_damaged_release(self) -> None:
         """A release that is empty, cut, longer, not executable, missing or without a digest is never started.
 

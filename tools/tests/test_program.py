@@ -1,6 +1,7 @@
 """How the program is found, with a launcher of the test's own."""
 
 import os
+import sys
 import tempfile
 from collections.abc import Iterator
 from contextlib import contextmanager
@@ -9,8 +10,9 @@ from unittest import TestCase
 from unittest.mock import patch
 
 from chordsim_tools.cli import Failure
-from chordsim_tools.program import DAMAGED, find_program
+from chordsim_tools.program import DAMAGED, environment, find_program
 from chordsim_tools.program import LAUNCHER as LAUNCHER_FILE
+from tests.support.programs import called
 
 LAUNCHER = """\
 #!/bin/sh
@@ -49,6 +51,19 @@ class ProgramTest(TestCase):
                 assert find_program(build=False) == find_program(build=True) == folder / "built"
                 calls = (folder / "calls").read_text(encoding="utf-8").split()
                 assert calls == ["--where", "--where", "--build", "--where", "--where"]
+
+    def test_environment(self) -> None:
+        """The program has large pages, unless the user's variable says something else."""
+        others = {name: value for name, value in os.environ.items() if name != "GLIBC_TUNABLES"}
+        with patch.dict(os.environ, others, clear=True):
+            wanted = {**others, "GLIBC_TUNABLES": "glibc.malloc.hugetlb=1"}
+            assert environment() == wanted
+            start = "from chordsim_tools.scripts import become; from pathlib import Path; become(Path('/usr/bin/env'))"
+            status, output, _ = called(sys.executable, "-c", start)
+            assert status == 0
+            assert "GLIBC_TUNABLES=glibc.malloc.hugetlb=1" in output.splitlines()
+        with patch.dict(os.environ, GLIBC_TUNABLES="glibc.malloc.hugetlb=0"):
+            assert environment() == dict(os.environ)
 
     def test_named(self) -> None:
         """The launcher is not asked for another program that CHORDSIM names; it has to be one that can be run."""

@@ -13,6 +13,7 @@ from typing import IO
 from chordsim_tools.cli import Failure
 from chordsim_tools.files import reason
 from chordsim_tools.known import known
+from chordsim_tools.program import environment
 from chordsim_tools.study.lookups import Table, read_table
 
 PART = 1 << 18
@@ -133,7 +134,11 @@ class Pipe:
         """One more process, whose standard output is to be read."""
         before = self.processes[-1].stdout if self.processes else self.source
         self.errors.append(tempfile.TemporaryFile())
-        self.processes.append(subprocess.Popen(command, stdin=before, stdout=subprocess.PIPE, stderr=self.errors[-1]))
+        self.processes.append(
+            subprocess.Popen(
+                command, env=environment(), stdin=before, stdout=subprocess.PIPE, stderr=self.errors[-1]
+            )
+        )
         if before is not None:
             # So the process before this one learns if this one ends.
             before.close()
