@@ -9,7 +9,7 @@
 #
 # CHORDSIM names another program than ./chordsim. The status is 0 if there is no rustc, and 1 if trace or report differ.
 set -eu
-# All programs have large pages, as ./chordsim has.
+# All programs have the large pages that ./chordsim gives its own.
 export GLIBC_TUNABLES="${GLIBC_TUNABLES-glibc.malloc.hugetlb=1}"
 top=$(CDPATH='' cd -- "$(dirname -- "$0")/.." && pwd)
 if ! command -v rustc > /dev/null; then

@@ -10,7 +10,7 @@
 #
 # CHORDSIM names another program than ./chordsim. It needs GNU time (/usr/bin/time).
 set -eu
-# All programs have large pages, as ./chordsim has.
+# The program has large pages, as ./chordsim gives it.
 export GLIBC_TUNABLES="${GLIBC_TUNABLES-glibc.malloc.hugetlb=1}"
 top=$(CDPATH='' cd -- "$(dirname -- "$0")/.." && pwd)
 # The launcher takes time of its own, so the program that it would start is timed.

@@ -9,7 +9,7 @@
 # SimGrid, which is by far the slowest, runs in the first turn alone. Without Debian's libsimgrid-dev, or if the memory
 # is too small for its actors, it prints `-` for SimGrid.
 set -eu
-# All programs have large pages, as ./chordsim has.
+# All programs have the large pages that ./chordsim gives its own.
 export GLIBC_TUNABLES="${GLIBC_TUNABLES-glibc.malloc.hugetlb=1}"
 here=$(CDPATH='' cd -- "$(dirname -- "$0")" && pwd)
 phold=$1

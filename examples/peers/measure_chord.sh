@@ -15,7 +15,7 @@
 # The peers must agree in messages, lookups found and mean hops to a hundredth, and chordsim with them in events and
 # mean hops to a twentieth, as its ring has other identifiers. Otherwise the script ends with an error.
 set -eu
-# All programs have large pages, as ./chordsim has.
+# All programs have the large pages that ./chordsim gives its own.
 export GLIBC_TUNABLES="${GLIBC_TUNABLES-glibc.malloc.hugetlb=1}"
 here=$(CDPATH='' cd -- "$(dirname -- "$0")" && pwd)
 chordsim=$1

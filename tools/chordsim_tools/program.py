@@ -19,7 +19,7 @@ DAMAGED = "is missing or damaged"
 """What the launcher says of a release that git can bring back. A start then builds no program in its place."""
 
 LARGE_PAGES = "glibc.malloc.hugetlb=1"
-"""Lets the program have large pages for what it allocates: a ring of a million nodes is a sixth faster."""
+"""Lets the program have large pages for what it allocates (docs/performance.md)."""
 
 
 def environment() -> dict[str, str]:

@@ -3,6 +3,7 @@
 import os
 import signal
 import sys
+from collections.abc import Mapping
 from functools import partial
 from importlib import import_module
 from pathlib import Path
@@ -33,17 +34,20 @@ trace = partial(run_tool, "trace")
 def chordsim() -> NoReturn:
     """Becomes the program, with the same arguments and streams. Ends with status 125 if there is no whole program."""
     try:
-        become(packaged_program() if IS_INSTALLED else LAUNCHER)
+        if IS_INSTALLED:
+            become(packaged_program(), environment())
+        else:
+            become(LAUNCHER, os.environ)
     except Failure as fault:
         sys.exit(ended(NO_PROGRAM, f"chordsim: {fault.text}"))
 
 
-def become(program: Path) -> NoReturn:
-    """Replaces this process by the program."""
+def become(program: Path, variables: Mapping[str, str]) -> NoReturn:
+    """Replaces this process by the program, with this environment."""
     # Python ignores these two signals, and the program would too.
     for number in (signal.SIGPIPE, signal.SIGXFSZ):
         signal.signal(number, signal.SIG_DFL)
     try:
-        os.execve(program, ["chordsim", *sys.argv[1:]], environment())
+        os.execve(program, ["chordsim", *sys.argv[1:]], variables)
     except OSError as fault:
         raise Failure(3, f"cannot run {program}: {reason(fault)}") from None

@@ -224,7 +224,7 @@ class Launcher(unittest.TestCase):
         self.assertEqual(self.builds(), 1)
 
     def test_large_pages(self) -> None:
-        """The program has large pages, unless the user's variable says something else, or nothing."""
+        """The program has large pages, unless the user has set the variable, even to nothing."""
         self.change("chordsim", "main.rt", "$GLIBC_TUNABLES\n")
         self.assertEqual(self.start("chordsim", "ids").stdout, "built of glibc.malloc.hugetlb=1: ids\n")
         for own in ("glibc.malloc.hugetlb=0", ""):

@@ -1,7 +1,6 @@
 """How the program is found, with a launcher of the test's own."""
 
 import os
-import sys
 import tempfile
 from collections.abc import Iterator
 from contextlib import contextmanager
@@ -9,10 +8,14 @@ from pathlib import Path
 from unittest import TestCase
 from unittest.mock import patch
 
+from chordsim.calling import Files, output_of
 from chordsim_tools.cli import Failure
+from chordsim_tools.explain.program import answered
+from chordsim_tools.explain.traps import counted
+from chordsim_tools.known import known
 from chordsim_tools.program import DAMAGED, environment, find_program
 from chordsim_tools.program import LAUNCHER as LAUNCHER_FILE
-from tests.support.programs import called
+from chordsim_tools.study.program import Pipe
 
 LAUNCHER = """\
 #!/bin/sh
@@ -23,6 +26,17 @@ case $1 in
 --build) [ ! -e "$here/broken" ] || exit 125; touch "$here/built" ;;
 esac
 echo "$here/built"
+"""
+
+
+STARTED = """\
+#!/bin/sh
+case $1 in
+check) echo "refused: $GLIBC_TUNABLES" >&2; exit 1 ;;
+glibc*) [ "$1" = "$GLIBC_TUNABLES" ] || exit 1 ;;
+esac
+echo "pages $GLIBC_TUNABLES"
+echo events 7
 """
 
 
@@ -53,17 +67,28 @@ class ProgramTest(TestCase):
                 assert calls == ["--where", "--where", "--build", "--where", "--where"]
 
     def test_environment(self) -> None:
-        """The program has large pages, unless the user's variable says something else."""
+        """The program has large pages, unless the user has set the variable."""
         others = {name: value for name, value in os.environ.items() if name != "GLIBC_TUNABLES"}
         with patch.dict(os.environ, others, clear=True):
-            wanted = {**others, "GLIBC_TUNABLES": "glibc.malloc.hugetlb=1"}
-            assert environment() == wanted
-            start = "from chordsim_tools.scripts import become; from pathlib import Path; become(Path('/usr/bin/env'))"
-            status, output, _ = called(sys.executable, "-c", start)
-            assert status == 0
-            assert "GLIBC_TUNABLES=glibc.malloc.hugetlb=1" in output.splitlines()
+            assert environment() == {**others, "GLIBC_TUNABLES": "glibc.malloc.hugetlb=1"}
         with patch.dict(os.environ, GLIBC_TUNABLES="glibc.malloc.hugetlb=0"):
             assert environment() == dict(os.environ)
+
+    def test_starts(self) -> None:
+        """Each start of the program has this environment."""
+        wanted = "glibc.malloc.hugetlb=1"
+        others = {name: value for name, value in os.environ.items() if name != "GLIBC_TUNABLES"}
+        with tempfile.TemporaryDirectory() as folder, patch.dict(os.environ, others, clear=True):
+            program = Path(folder) / "program"
+            program.write_text(STARTED, encoding="utf-8")
+            program.chmod(0o755)
+            with Pipe() as pipe:
+                pipe.start([str(program), "run"])
+                assert known(pipe.processes[0].stdout).read() == f"pages {wanted}\nevents 7\n".encode()
+            assert answered([str(program), "check"]) == f"refused: {wanted}"
+            assert counted([str(program), wanted]) == 7
+            with patch.dict(os.environ, CHORDSIM=str(program)):
+                assert output_of(Files(b"", None), "run") == f"pages {wanted}\nevents 7\n"
 
     def test_named(self) -> None:
         """The launcher is not asked for another program that CHORDSIM names; it has to be one that can be run."""

@@ -6,6 +6,7 @@ from pathlib import Path
 
 from chordsim_tools.cli import Failure
 from chordsim_tools.files import reason
+from chordsim_tools.program import environment
 
 
 def answer_of(program: Path, scenario: bytes, latency: bytes) -> str:
@@ -20,7 +21,9 @@ def answer_of(program: Path, scenario: bytes, latency: bytes) -> str:
 def answered(command: list[str]) -> str:
     """What the program prints for this command."""
     try:
-        done = subprocess.run(command, capture_output=True, text=True, errors="replace", check=False)
+        done = subprocess.run(
+            command, env=environment(), capture_output=True, text=True, errors="replace", check=False
+        )
     except OSError as error:
         raise Failure(3, f"{command[0]}: {reason(error)}") from None
     said = (done.stdout if done.returncode == 0 else done.stderr).strip().splitlines()

@@ -10,6 +10,7 @@ from typing import Any
 from chordsim_tools.cli import say
 from chordsim_tools.explain.world_traps import world_traps
 from chordsim_tools.known import known
+from chordsim_tools.program import environment
 from chordsim_tools.quantities import time_text
 from chordsim_tools.scenario import coordinates
 from chordsim_tools.scenario.classes import expanded, node_count, node_places, node_sections
@@ -176,7 +177,9 @@ def events_until(program: Path, top: dict[str, Any], latency: bytes, span: int) 
 def counted(command: list[str]) -> int | None:
     """The number of events that a run reports."""
     try:
-        done = subprocess.run(command, capture_output=True, text=True, timeout=PATIENCE, check=False)
+        done = subprocess.run(
+            command, env=environment(), capture_output=True, text=True, timeout=PATIENCE, check=False
+        )
     except OSError:
         return None
     found = dict(line.split(" ", 1) for line in done.stdout.splitlines() if " " in line)
