@@ -1,4 +1,5 @@
 pub mod Digits
 pub mod Distance
+pub mod Leading
 pub mod Meeting
 pub mod Powers

@@ -1,6 +1,6 @@
 //! The circle of identifiers: distances, intervals and finger starts.
 ghost use Rattle.std.specs.Prelude.{◌≡◌, ℕ, ◌+◌, ◌-◌, ◌%◌, ◌^◌, ◌<◌, ◌≤◌, ◌↔◌, IsTrue, IsSome, IfSome};
-ghost use Rattle.chord_circle.specs.Circle.{distance, between, digit_count, in_half_open, finger_beyond, finger_start, way_to};
+ghost use Rattle.chord_circle.specs.Circle.{distance, between, digit_count, in_half_open, finger_beyond, finger_start, leading, way_to};
 ghost use Rattle.chord_circle.specs.Names.{ident_of_name};
 
 use crate::ident::{Ident, Raw};
@@ -107,6 +107,19 @@ impl Circle {
             self.last
         } else {
             self.distance(a, b) - 1
+        }
+    }
+
+    /// The first 32 bits of a number of places, and 0 on a circle with fewer bits.
+    #[tactic(auto, using(crate::proofs::Leading::part_below))]
+    pub fn leading(&self, places: Raw) -> u32
+        requires { places < 2 ^ self.now }
+        ensures { result ≡ leading self.now places }
+    {
+        if self.bits < 32 {
+            0
+        } else {
+            (places >> (self.bits - 32)) as u32
         }
     }
 

@@ -41,3 +41,19 @@ fn the_widest_circle(rt: HostRuntime) {
     let named = circle.ident_of_name(b"a");
     assert!(rt; named.raw() == 0x86f7_e437_faa5_a7fc_e15d_1ddc_b9ea_eaea);
 }
+
+/// The leading bits of a number of places, on wide circles and on one with fewer than 32 bits.
+#[test]
+fn leading_bits(rt: HostRuntime) {
+    let (Some(wide), Some(least), Some(narrow)) = (
+        Circle::new(64),
+        Circle::new(32),
+        Circle::new(31),
+    ) else {
+        assert!(rt; false, "no circle");
+        return;
+    };
+    assert!(rt; wide.leading(5 << 32 | 7) == 5);
+    assert!(rt; least.leading(4294967295) == 4294967295);
+    assert!(rt; narrow.leading(7) == 0);
+}
