@@ -45,6 +45,7 @@ use Rattle.std.proofs.Math.Dec.{eqb}
 use Rattle.std.proofs.lemmas.Bool.{eq-eqb}
 use Rattle.std.proofs.lemmas.List.{get_or-map, get_or_default, length-map}
 use Rattle.std.proofs.lemmas.List.Sums.{length-filter}
+use Rattle.chord_scenario.specs.Order.{AreRanks}
 use Rattle.chord_scenario.specs.Range.{IsInRange}
 use Rattle.chord_scenario.specs.Setup.{Setup}
 use Rattle.chord_scenario.specs.World.{node_count}
@@ -72,7 +73,6 @@ use Rattle.chord_audit.specs.Audit.{
   is_passed_over,
 }
 use Rattle.chord_audit.specs.Tables.{
-  AreRanks,
   AreTables,
   LeadBelow,
   is_marked,

@@ -1,7 +1,6 @@
 pub mod Agreement
 pub mod Lists
 pub mod Places
-pub mod Order
 pub mod Powers
 pub mod Reaches
 pub mod Rings

@@ -28,12 +28,12 @@ use Rattle.std.specs.Prelude.{
 }
 use Rattle.std.specs.List.{All, list_any, range_with_len}
 use Rattle.chord_scenario.specs.Setup.{Setup}
-use Rattle.chord_scenario.specs.World.{node_count, ident_of}
+use Rattle.chord_scenario.specs.World.{node_count}
 use Rattle.chord_node.specs.declared.state.NodeState.{NodeState}
+use Rattle.chord_scenario.specs.Order.{AreRanks}
 use Rattle.chord_scenario.specs.Range.{IsInRange}
 use Rattle.chord_audit.specs.Audit.{after, is_member}
 use Rattle.chord_audit.specs.declared.arcs.Arcs.{Arcs}
-use Rattle.chord_audit.specs.declared.ranks.Placed.{Placed}
 use Rattle.chord_audit.specs.declared.tables.Tables.{Tables}
 
 -- the table marks node n; false if n is beyond the end of the table
@@ -99,21 +99,6 @@ is_passing ranks marks states k n = is_marked marks n && is_inside_list ranks k 
 abbrev pub is_passed_rank : (ranks : List ℕ) → (marks : List Bool) → List NodeState → (k : ℕ) → Bool
 is_passed_rank ranks marks states k = list_any (is_passing ranks marks states k) (range_with_len 0 (length ranks))
 
--- a node with its identifier
-abbrev pub placed : Setup → ℕ → Placed
-placed sc n = record { ident = ident_of sc n; node = n }
-
--- a rank of each node, and they ascend as the identifiers do
-pub record AreRanks (sc : Setup) (ranks : List ℕ) : Type 0 where
-  pub each : length ranks ≡ node_count sc
-  pub within : (n : ℕ) → n < node_count sc → slice_index ranks n < node_count sc
-  pub order : (n m : ℕ) → n < node_count sc → m < node_count sc → nat_lt (slice_index ranks n) (slice_index ranks m) ≡ nat_lt (ident_of sc n) (ident_of sc m)
-
--- the nodes at the ranks, each at its own
-pub record AreInOrder (ranks nodes : List ℕ) : Type 0 where
-  pub each : length nodes ≡ length ranks
-  pub own : (k : ℕ) → k < length nodes → slice_index ranks (slice_index nodes k) ≡ k
-
 -- whether ways cover rank k: those from the start end at `first`, and those from each rank on at its entry of `far`
 abbrev pub reaches : (first : ℕ) → (far : List ℕ) → (k : ℕ) → Bool
 reaches first far k = nat_lt k first || list_any (λ end. nat_lt k end) (take k far)
@@ -140,4 +125,4 @@ pub record AreTables (sc : Setup) (states : List NodeState) (members : List Bool
 
 -- the tables hold what those of an audit hold of each node and of each rank
 abbrev pub HoldFacts : Setup → List NodeState → Tables → Type 0
-HoldFacts sc states t = AreTables sc states t.members.items t.best.items t.ring.items t.ranks.items t.skipped.items t.passed.items
+HoldFacts sc states t = AreTables sc states t.members.items t.best.items t.ring.items t.ranks.now t.skipped.items t.passed.items

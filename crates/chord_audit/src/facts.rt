@@ -43,13 +43,13 @@ pub fn audit_states<V: States<NodeState>>(
 {
     let tables = Tables::of(alloc, scenario, states)?;
     let dead = count_dead(&tables.members, &tables.best);
-    let principals = count_principals(&tables.members, &tables.ranks, &tables.passed);
+    let principals = count_principals(&tables.members, tables.ranks, &tables.passed);
     Ok(AuditLine {
         time,
         members: count_marked(&tables.members),
         dead,
         ring: count_marked(&tables.ring),
-        ordered: !any_skipped(&tables.ring, &tables.ranks, &tables.skipped),
+        ordered: !any_skipped(&tables.ring, tables.ranks, &tables.skipped),
         principals,
         sufficient: scenario.list() < principals && dead == 0,
     })
@@ -85,13 +85,13 @@ fn count_dead(members: &[bool], best: &[Option<u32>]) -> u32
 }
 
 /// Whether the rank of some ring node is skipped.
-fn any_skipped(ring: &[bool], ranks: &[usize], skipped: &[bool]) -> bool
+fn any_skipped(ring: &[bool], ranks: &[u32], skipped: &[bool]) -> bool
     requires ranks { length ranks.now ≡ length ring.now }
     requires within { All (λ rank. rank < length skipped.now) ranks.now }
     ensures { result ≡ list_any (λ n. is_marked ring.now n && is_marked_rank ranks.now skipped.now n) (range_with_len 0 (length ring.now)) }
 {
     for node in 0..ring.len() {
-        if ring[node] && skipped[ranks[node]] {
+        if ring[node] && skipped[ranks[node] as usize] {
             return true;
         }
     }
@@ -99,7 +99,7 @@ fn any_skipped(ring: &[bool], ranks: &[usize], skipped: &[bool]) -> bool
 }
 
 /// The number of members whose rank is not skipped by a list.
-fn count_principals(members: &[bool], ranks: &[usize], passed: &[bool]) -> u32
+fn count_principals(members: &[bool], ranks: &[u32], passed: &[bool]) -> u32
     requires few { length members.now < 2 ^ 32 }
     requires ranks { length ranks.now ≡ length members.now }
     requires within { All (λ rank. rank < length passed.now) ranks.now }
@@ -107,7 +107,7 @@ fn count_principals(members: &[bool], ranks: &[usize], passed: &[bool]) -> u32
 {
     let mut count = 0;
     for node in 0..members.len() {
-        if members[node] && !passed[ranks[node]] {
+        if members[node] && !passed[ranks[node] as usize] {
             count += 1;
         }
     }

@@ -6,7 +6,6 @@ mod audit_line;
 mod facts;
 mod list_facts;
 mod passes;
-mod ranks;
 mod ring;
 mod successors;
 mod tables;

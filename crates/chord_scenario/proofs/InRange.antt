@@ -17,6 +17,7 @@ use Rattle.chord_scenario.specs.Faults.{first_answer, same_name, same_id, too_fe
 use Rattle.chord_scenario.specs.Groups.{key_questions, node_questions, late_questions}
 use Rattle.chord_scenario.specs.KeyFaults.{needs_of}
 use Rattle.chord_scenario.specs.Latencies.{HasLatencies}
+use Rattle.chord_scenario.specs.Order.{AreApart}
 use Rattle.chord_scenario.specs.Range.{IsCommandOf, IsInRange}
 use Rattle.chord_scenario.specs.Rows.{Row}
 use Rattle.chord_scenario.specs.Search.{first_repeat}
@@ -91,17 +92,21 @@ met nodes i j h less within same =
     let two = get_or-map (λ n. n.ident) nodes j d 0 within in
     false≢true (sym apart ∙ eq-eqb (get_or nodes i d).ident (get_or nodes j d).ident (sym one ∙ same ∙ two))
 
-idents_apart : (sc : Setup) → same_id sc.nodes ≡ None → (i j : ℕ) → i < node_count sc → j < node_count sc → ident_of sc i ≡ ident_of sc j → i ≡ j
-unfolding ident_of
-idents_apart sc h i j hi hj same =
+-- no two nodes have one identifier
+pub nodes_apart : (nodes : List Node) → same_id nodes ≡ None → AreApart nodes
+nodes_apart nodes h i j hi hj same =
     elim (dec_lt i j) [
-      | yes less ↦ absurd (met sc.nodes i j h less hj same)
+      | yes less ↦ absurd (met nodes i j h less hj same)
       | no not_less ↦
           elim (dec_lt j i) [
-            | yes more ↦ absurd (met sc.nodes j i h more hi (sym same))
+            | yes more ↦ absurd (met nodes j i h more hi (sym same))
             | no not_more ↦ omega arith
           ]
     ]
+
+idents_apart : (sc : Setup) → same_id sc.nodes ≡ None → (i j : ℕ) → i < node_count sc → j < node_count sc → ident_of sc i ≡ ident_of sc j → i ≡ j
+unfolding ident_of
+idents_apart sc h = nodes_apart sc.nodes h
 
 idents_on_circle : (sc : Setup) → All (λ n. n.ident < 2 ^ sc.bits) sc.nodes → (i : ℕ) → i < node_count sc → ident_of sc i < 2 ^ sc.bits
 unfolding ident_of

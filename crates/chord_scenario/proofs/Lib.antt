@@ -23,6 +23,7 @@ pub mod Questions
 pub mod Scenarios
 pub mod Squares
 pub mod Ranges
+pub mod Ranks
 pub mod SoundSections
 pub mod Entries
 pub mod TopFacts
@@ -36,3 +37,4 @@ pub mod LatencyFacts
 pub mod InRange
 pub mod Starts
 pub mod Kept
+pub mod LeadingBits

@@ -20,6 +20,12 @@ node_questions-distinct ss nodes h =
     let rest = (or_none (bad_name ss) (option_or (same_name nodes) (option_or (same_id nodes) None)) h).1 in
     (or_none (same_name nodes) (option_or (same_id nodes) None) rest).0
 
+pub node_questions-idents : (ss : List Section) (nodes : List Node) → first_answer (node_questions ss nodes) ≡ None → same_id nodes ≡ None
+node_questions-idents ss nodes h =
+    let rest = (or_none (bad_name ss) (option_or (same_name nodes) (option_or (same_id nodes) None)) h).1 in
+    let last = (or_none (same_name nodes) (option_or (same_id nodes) None) rest).1 in
+    (or_none (same_id nodes) None last).0
+
 -- the latency of two different nodes without coordinates is that of the rows
 pub latency-between : (rows : List Row) (sc : Setup) (i j : ℕ) (x y : Node) → HasLatencies sc.nodes rows sc.latencies → bad_latency_row rows ≡ None
     → same_name sc.nodes ≡ None → sc.coordinates ≡ []

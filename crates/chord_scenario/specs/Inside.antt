@@ -1,7 +1,10 @@
 -- What the fields of a scenario say.
-use Rattle.std.specs.Prelude.{length}
+use Rattle.std.specs.Prelude.{◌≡◌, length, map}
+use Rattle.chord_circle.specs.Circle.{leading}
 use Rattle.chord_scenario.specs.declared.scenario.Scenario.TheInside.{Inside}
 use Rattle.chord_scenario.specs.Latencies.{square_or_zeros}
+use Rattle.chord_scenario.specs.Order.{AreInOrder, AreRanks}
+use Rattle.chord_scenario.specs.Range.{IsInRange}
 use Rattle.chord_scenario.specs.Setup.{Setup}
 
 -- what contracts see of a scenario, from its fields: if it keeps no square of latencies, since no row gives any, they
@@ -38,3 +41,10 @@ setup_of s = record {
   latencies = square_or_zeros (length s.nodes.items) s.latencies.items;
   coordinates = s.coordinates.items;
 }
+
+-- what every scenario keeps: its numbers are in range, its order is that of its nodes, and so are its leading bits
+pub record IsKept (s : Inside) : Type 0 where
+  pub range : IsInRange (setup_of s)
+  pub ranks : AreRanks (setup_of s) s.order.ranks.items
+  pub in_order : AreInOrder s.order.ranks.items s.order.nodes.items
+  pub leading : s.leading.items ≡ map (λ n. leading s.circle n.ident) s.nodes.items

@@ -10,6 +10,7 @@ pub mod Inside
 pub mod KeyFaults
 pub mod Latencies
 pub mod Operations
+pub mod Order
 pub mod Range
 pub mod Rows
 pub mod Search

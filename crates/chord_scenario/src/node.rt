@@ -1,6 +1,7 @@
 //! The nodes of a scenario file.
 ghost use Rattle.std.specs.Prelude.{◌≡◌, ◌<◌, ◌≤◌, ◌^◌, ◌++◌, IfOk, IfSome, OnOk, length, map, option_and_then};
 ghost use Rattle.std.specs.List.{All};
+ghost use Rattle.chord_circle.specs.Circle.{leading};
 ghost use Rattle.chord_scenario.specs.Values.{data_at, identifier_of};
 ghost use Rattle.toml.specs.View.{table_view};
 ghost use Rattle.chord_scenario.specs.Sections.{section_of};
@@ -248,6 +249,22 @@ pub(crate) fn bootstraps(alloc: Global, nodes: &[Node]) -> Result<Vec<u32>, Allo
         }
     }
     Ok(bootstraps)
+}
+
+/// The leading bits of the identifiers of nodes, in order.
+pub(crate) fn leading_bits(
+    alloc: Global,
+    circle: Circle,
+    nodes: &[Node],
+) -> Result<Vec<u32>, AllocError>
+    requires { All (λ n. n.ident < 2 ^ circle) nodes.now }
+    ensures { IfOk result (λ v. v.items ≡ map (λ n. leading circle n.ident) nodes.now) }
+{
+    let mut leading = Vec::new(alloc);
+    for node in nodes {
+        leading.push(circle.leading(node.ident.raw()))?;
+    }
+    Ok(leading)
 }
 
 /// The nodes of a file, in order.

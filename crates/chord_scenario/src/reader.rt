@@ -1,5 +1,6 @@
 //! Reading a scenario from its two texts.
 ghost use Rattle.std.specs.Prelude.{◌≡◌, ◌==◌, ◌⊎◌, Some, None, IfOk, IfErr, map, length, ◌≤◌};
+ghost use Rattle.chord_circle.specs.Circle.{leading};
 ghost use Rattle.chord_scenario.specs.declared.key.FileKey.TheVariants as key;
 ghost use Rattle.chord_scenario.specs.Values.{number_at};
 ghost use Rattle.toml.specs.View.{table_view};
@@ -11,6 +12,7 @@ ghost use Rattle.chord_scenario.specs.Faults.{first_answer, same_name, row_names
 ghost use Rattle.chord_scenario.specs.Groups.{key_questions, node_questions, link_questions, pair_questions, late_questions};
 ghost use Rattle.chord_scenario.specs.declared.fault.ScenarioFault.TheVariants.{UnknownNode};
 ghost use Rattle.chord_scenario.specs.Search.{row_fault};
+ghost use Rattle.chord_scenario.specs.Order.{AreInOrder, AreRanksOf};
 ghost use Rattle.chord_scenario.specs.Range.{IsInRange};
 ghost use Rattle.chord_scenario.specs.Accepted.{setup_with, IsSetupOf, Accepts};
 
@@ -25,8 +27,9 @@ use crate::keys_check::{missing_key, out_of_range, unknown_key, wrong_type};
 use crate::latency::latencies;
 use crate::link_check::{bad_latency_row, self_link, time_after_end, unknown_node};
 use crate::names::Names;
-use crate::node::{bootstraps, coordinates, nodes};
+use crate::node::{bootstraps, coordinates, leading_bits, nodes};
 use crate::node_check::{bad_name, same_id, same_name, too_few_initial};
+use crate::order::{KeptOrder, order_of};
 use crate::row::Rows;
 use crate::scenario::Scenario;
 use crate::section::{PlacedTable, tables_in};
@@ -234,6 +237,15 @@ fn checked_names<'a>(
     }
 }
 
+/// The nodes of a scenario, and what it keeps of them.
+#[derive(Drop)]
+struct NamedNodes {
+    nodes: Vec<Node>,
+    bootstraps: Vec<u32>,
+    order: KeptOrder,
+    leading: Vec<u32>,
+}
+
 /// The scenario of a table and rows, or the first fault of them.
 #[tactic(auto, unfolding(crate::specs::Faults::file_fault))]
 fn scenario_of(alloc: Global, top: &Table, csv: &[u8]) -> Result<Scenario, ScenarioFault>
@@ -248,23 +260,28 @@ fn scenario_of(alloc: Global, top: &Table, csv: &[u8]) -> Result<Scenario, Scena
     let names = checked_names(alloc, tables, nodes.as_slice())?;
     let linked = link_nodes(alloc, circle, top, tables, names, csv)?;
     let bootstraps = bootstraps(alloc, nodes.as_slice())?;
-    Ok(assembled(circle, top, nodes, bootstraps, linked))
+    let order = order_of(alloc, nodes.as_slice())?;
+    let leading = leading_bits(alloc, circle, nodes.as_slice())?;
+    let named = NamedNodes {
+        nodes,
+        bootstraps,
+        order,
+        leading,
+    };
+    Ok(assembled(circle, top, named, linked))
 }
 
 /// The scenario of a table, its nodes, and what links them.
-fn assembled(
-    circle: Circle,
-    top: &Table,
-    nodes: Vec<Node>,
-    bootstraps: Vec<u32>,
-    linked: Linked,
-) -> Scenario
+fn assembled(circle: Circle, top: &Table, named: NamedNodes, linked: Linked) -> Scenario
     requires circle { circle ≡ number_at key.Bits (table_view top.now) }
     requires profile { number_at key.Profile (table_view top.now) ≤ 4 }
     requires coordinates { linked.distances.coordinates.items ≡ coordinates_of (number_at key.Seed (table_view top.now)) (sections (table_view top.now)) }
-    requires bootstraps { bootstraps.items ≡ bootstraps_of nodes.items }
-    requires in_range { IsInRange (setup_with (table_view top.now) nodes.items linked.commands.items (square_or_zeros (length nodes.items) linked.distances.cells.items)) }
-    ensures { result ≡ setup_with (table_view top.now) nodes.items linked.commands.items (square_or_zeros (length nodes.items) linked.distances.cells.items) }
+    requires bootstraps { named.bootstraps.items ≡ bootstraps_of named.nodes.items }
+    requires ranks { AreRanksOf named.nodes.items named.order.ranks.items }
+    requires in_order { AreInOrder named.order.ranks.items named.order.nodes.items }
+    requires leading { named.leading.items ≡ map (λ n. leading circle n.ident) named.nodes.items }
+    requires in_range { IsInRange (setup_with (table_view top.now) named.nodes.items linked.commands.items (square_or_zeros (length named.nodes.items) linked.distances.cells.items)) }
+    ensures { result ≡ setup_with (table_view top.now) named.nodes.items linked.commands.items (square_or_zeros (length named.nodes.items) linked.distances.cells.items) }
 {
     let extended = is_extended(top);
     Scenario {
@@ -292,8 +309,10 @@ fn assembled(
         jitters: jitters_of(top),
         churn: churn_of(top),
         lookups: lookups_of(top),
-        nodes,
-        bootstraps,
+        nodes: named.nodes,
+        bootstraps: named.bootstraps,
+        order: named.order,
+        leading: named.leading,
         commands: linked.commands,
         latencies: linked.distances.cells,
         coordinates: linked.distances.coordinates,

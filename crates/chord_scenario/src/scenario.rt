@@ -1,9 +1,12 @@
 //! Scenarios, as a run reads them.
 ghost use Rattle.std.specs.Prelude.{◌≡◌, ◌<◌, ◌≤◌, ◌^◌, length, slice_get, Some};
+ghost use Rattle.chord_circle.specs.Circle.{leading};
+ghost use Rattle.chord_scenario.specs.Order.{AreInOrder, AreRanks};
 ghost use Rattle.chord_scenario.specs.Range.{IsInRange};
 ghost use Rattle.chord_scenario.specs.World.{node_count, name_of, ident_of, is_initial, is_churn_node, latency, latency_by_place};
 
 use crate::latency::cell_at;
+use crate::order::{KeptOrder, Order};
 use crate::setting::{Churn, Command, Coordinates, Jitters, Node, Rules, Span};
 use chord_circle::{Circle, Ident};
 use std::marker::Model;
@@ -41,6 +44,9 @@ pub struct Scenario {
     pub(crate) lookups: Option<Span>,
     pub(crate) nodes: Vec<Node>,
     pub(crate) bootstraps: Vec<u32>,
+    pub(crate) order: KeptOrder,
+    /// The leading bits of the identifier of each node in turn.
+    pub(crate) leading: Vec<u32>,
     pub(crate) commands: Vec<Command>,
     /// For each node in turn its latency to each node, and 0 if no row names the two. Empty if
     /// there are no rows.
@@ -50,15 +56,14 @@ pub struct Scenario {
 }
 
 impl Model for Scenario {
-    ghost use Rattle.chord_scenario.specs.Inside.{setup_of};
-    ghost use Rattle.chord_scenario.specs.Range.{IsInRange};
+    ghost use Rattle.chord_scenario.specs.Inside.{setup_of, IsKept};
     ghost use Rattle.chord_scenario.specs.Setup.{Setup};
 
     ghost Value = { Setup };
 
     ghost view = { λ s. setup_of s };
 
-    ghost invariant = { λ s. IsInRange (setup_of s) };
+    ghost invariant = { λ s. IsKept s };
 }
 
 impl Scenario {
@@ -274,6 +279,16 @@ impl Scenario {
         self.place_of(node)
     }
 
+    /// The first 32 bits of the identifier of a node, and 0 on a circle with fewer bits. Those of
+    /// all nodes lie close together in memory, so a search that they decide is fast.
+    #[tactic(auto, unfolding(crate::specs::World::ident_of))]
+    pub fn leading(&self, node: u32) -> u32
+        requires { node < node_count self.now }
+        ensures { result ≡ leading self.now.bits (ident_of self.now node) }
+    {
+        self.leading[node as usize]
+    }
+
     #[tactic(auto, unfolding(crate::specs::World::ident_of))]
     fn place_of(&self, node: u32) -> Ident
         requires { node < node_count self.now }
@@ -306,6 +321,17 @@ impl Scenario {
         ensures { result.now ≡ self.now.bootstraps }
     {
         self.bootstraps.as_slice()
+    }
+
+    /// The nodes in the order of their identifiers, and their ranks in it.
+    pub fn order(&self) -> Order<'_>
+        ensures ranks { AreRanks self.now result.ranks.now }
+        ensures nodes { AreInOrder result.ranks.now result.nodes.now }
+    {
+        Order {
+            nodes: self.order.nodes.as_slice(),
+            ranks: self.order.ranks.as_slice(),
+        }
     }
 
     /// The number of commands, as the length of their list.

@@ -15,13 +15,13 @@ many_found find_in states end best inside made =
 pub returns-clause-each : goal.returns-clause-each
 returns-clause-each g c =
     let arcs = c.loop-best.arcs in
-    length-covered arcs.first (length c.args.order.now.ranks.items) arcs.far.items c.in_ok-passed.passed.items c.loop-best.invariant.each
+    length-covered arcs.first (length c.args.order.now.ranks.now) arcs.far.items c.in_ok-passed.passed.items c.loop-best.invariant.each
     c.in_ok-passed.ensures
 
 pub returns-clause-passed : goal.returns-clause-passed
 returns-clause-passed g c = λ k lt.
-    let arcs = c.loop-best.arcs in let ranks = c.args.order.now.ranks.items in
-    let all : length c.loop-best.best.items ≡ length ranks = omega (arith, c.loop-best-test.false, c.loop-best.invariant.within, c.len-nodes.ensures, c.len.ensures) in
+    let arcs = c.loop-best.arcs in let ranks = c.args.order.now.ranks.now in
+    let all : length c.loop-best.best.items ≡ length ranks = omega (arith, c.loop-best-test.false, c.loop-best.invariant.within, c.len.ensures) in
     marked_covered arcs.first k (length ranks) arcs.far.items c.in_ok-passed.passed.items c.loop-best.invariant.each c.in_ok-passed.ensures lt
     ∙ c.loop-best.invariant.covered k lt
     ∙ ap (λ n. list_any (is_passing ranks c.args.members.now (g.V.States.list c.args.states.now) k) (range_with_len 0 n)) all
@@ -61,14 +61,14 @@ pub add_passed-requires-clause-before : goal.add_passed-requires-clause-before
 add_passed-requires-clause-before g c = λ k lt.
     let first : length c.loop-best.best.items ≡ c.len-first.result = omega (arith, c.len-first.ensures) in
     c.loop-best.invariant.covered k lt
-    ∙ ap (λ n. list_any (is_passing c.args.order.now.ranks.items c.args.members.now (g.V.States.list c.args.states.now) k) (range_with_len 0 n)) first
+    ∙ ap (λ n. list_any (is_passing c.args.order.now.ranks.now c.args.members.now (g.V.States.list c.args.states.now) k) (range_with_len 0 n)) first
 
 pub loop-best-preserved : goal.loop-best-preserved
 loop-best-preserved g c =
-    let states = g.V.States.list c.args.states.now in let ranks = c.args.order.now.ranks.items in let end = c.min-end.result in
+    let states = g.V.States.list c.args.states.now in let ranks = c.args.order.now.ranks.now in let end = c.min-end.result in
     let find_in = λ (state : NodeState). find (is_marked c.args.members.now) state.succ in
     let made : c.add_best.new.best.items ≡ map find_in (take end states) = c.in_ok-add_best.ensures in
-    let inside : end ≤ length states = omega (arith, c.min-end.ensures, c.len-nodes.ensures, c.requires.states) in
+    let inside : end ≤ length states = omega (arith, c.min-end.ensures, c.requires.states) in
     let many : length c.add_best.new.best.items ≡ end = many_found find_in states end c.add_best.new.best.items inside made in
     record {
       within = omega (arith, many, inside, c.requires.states);
@@ -83,9 +83,9 @@ loop-best-smaller g c =
     let states = g.V.States.list c.args.states.now in let end = c.min-end.result in
     let find_in = λ (state : NodeState). find (is_marked c.args.members.now) state.succ in
     let made : c.add_best.new.best.items ≡ map find_in (take end states) = c.in_ok-add_best.ensures in
-    let inside : end ≤ length states = omega (arith, c.min-end.ensures, c.len-nodes.ensures, c.requires.states) in
+    let inside : end ≤ length states = omega (arith, c.min-end.ensures, c.requires.states) in
     let many : length c.add_best.new.best.items ≡ end = many_found find_in states end c.add_best.new.best.items inside made in
-    omega (arith, many, c.min-end.ensures, c.len-first.ensures, c.len.ensures, c.len-nodes.ensures, c.loop-best-test.true)
+    omega (arith, many, c.min-end.ensures, c.len-first.ensures, c.len.ensures, c.loop-best-test.true)
 
 pub returns-clause-best : goal.returns-clause-best
 returns-clause-best g c =
@@ -94,7 +94,6 @@ returns-clause-best g c =
       arith,
       c.loop-best-test.false,
       c.loop-best.invariant.within,
-      c.len-nodes.ensures,
       c.len.ensures,
       c.requires.states,
     ) in

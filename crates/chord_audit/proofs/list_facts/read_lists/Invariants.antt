@@ -5,12 +5,12 @@ use Rattle.chord_audit.proofs.list_facts.read_lists.Given as goal
 
 abbrev pub invariant-loop-best : goal.invariant-loop-best
 invariant-loop-best g l = record {
-  within : length l.best.items ≤ length l.order.ranks.items;
+  within : length l.best.items ≤ length l.order.ranks.now;
   best : l.best.items ≡ map (λ state. find (is_marked l.members) state.succ) (take (length l.best.items) (g.V.States.list l.states));
-  each : length l.arcs.far.items ≡ length l.order.ranks.items;
-  covered : (k : ℕ) → k < length l.order.ranks.items → covers l.arcs k
-      ≡ list_any (is_passing l.order.ranks.items l.members (g.V.States.list l.states) k) (range_with_len 0 (length l.best.items));
+  each : length l.arcs.far.items ≡ length l.order.ranks.now;
+  covered : (k : ℕ) → k < length l.order.ranks.now → covers l.arcs k
+      ≡ list_any (is_passing l.order.ranks.now l.members (g.V.States.list l.states) k) (range_with_len 0 (length l.best.items));
 }
 
 abbrev pub decreases-loop-best : goal.decreases-loop-best
-decreases-loop-best g l = length l.order.ranks.items - length l.best.items
+decreases-loop-best g l = length l.order.ranks.now - length l.best.items

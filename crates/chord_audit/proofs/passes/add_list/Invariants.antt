@@ -8,6 +8,6 @@ invariant-loop-node l = record {
   each : length l.arcs.far.items ≡ length l.initial.arcs.far.items;
   low : l.from < length l.initial.arcs.far.items;
   covered : (k : ℕ) → k < length l.initial.arcs.far.items
-      → (covers l.arcs k || is_inside_from l.order.ranks.items k l.from (drop l.node-index l.list))
-      ≡ (covers l.initial.arcs k || is_inside_list l.order.ranks.items k l.leader l.list);
+      → (covers l.arcs k || is_inside_from l.order.ranks.now k l.from (drop l.node-index l.list))
+      ≡ (covers l.initial.arcs k || is_inside_list l.order.ranks.now k l.leader l.list);
 }

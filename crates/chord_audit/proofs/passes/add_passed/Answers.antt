@@ -10,7 +10,7 @@ use Rattle.chord_audit.proofs.passes.add_passed.Goals.{then-marks-node, else-mar
 
 pub loop-node-preserved : goal.loop-node-preserved
 loop-node-preserved g c =
-    let ranks = c.args.order.now.ranks.items in let marks = c.args.marks.now in let states = (g.V.States.list c.args.states.now) in let n = c.loop-node.node in
+    let ranks = c.args.order.now.ranks.now in let marks = c.args.marks.now in let states = (g.V.States.list c.args.states.now) in let n = c.loop-node.node in
     let old = c.loop-node.arcs in let each = c.loop-node.invariant.each in
     let step = λ (k : ℕ) (lt : k < length ranks) (now : Bool). one_more (is_passing ranks marks states k) n (reaches old.first old.far.items k) now
     (c.loop-node.invariant.covered k lt) in

@@ -5,6 +5,6 @@ use Rattle.chord_audit.proofs.passes.add_passed.Given as goal
 
 abbrev pub invariant-loop-node : goal.invariant-loop-node
 invariant-loop-node g l = record {
-  each : length l.arcs.far.items ≡ length l.order.ranks.items;
-  covered : (k : ℕ) → k < length l.order.ranks.items → covers l.arcs k ≡ list_any (is_passing l.order.ranks.items l.marks (g.V.States.list l.states) k) (range_with_len 0 l.node);
+  each : length l.arcs.far.items ≡ length l.order.ranks.now;
+  covered : (k : ℕ) → k < length l.order.ranks.now → covers l.arcs k ≡ list_any (is_passing l.order.ranks.now l.marks (g.V.States.list l.states) k) (range_with_len 0 l.node);
 }

@@ -5,6 +5,7 @@ use Rattle.chord_scenario.specs.declared.key.FileKey.TheVariants as key
 use Rattle.chord_scenario.specs.Settings.{check_of, join_pause_of, rules_of}
 use Rattle.chord_scenario.specs.Values.{truth_or}
 use Rattle.toml.specs.View.{table_view}
+use Rattle.chord_scenario.proofs.Ranks.{ranks_of_setup}
 use Rattle.chord_scenario.proofs.reader.assembled.Goals as goal
 
 pub returns : goal.returns
@@ -33,12 +34,17 @@ returns c = λ i. record {
   jitters = c.jitters_of.ensures i;
   churn = c.churn_of.ensures i;
   lookups = c.lookups_of.ensures i;
-  nodes = c.args.nodes.items;
+  nodes = c.args.named.nodes.items;
   bootstraps = c.requires.bootstraps i;
   commands = c.args.linked.commands.items;
-  latencies = square_or_zeros (length c.args.nodes.items) c.args.linked.distances.cells.items;
+  latencies = square_or_zeros (length c.args.named.nodes.items) c.args.linked.distances.cells.items;
   coordinates = c.requires.coordinates i;
 }
 
 pub invariant_of-result : goal.invariant_of-result
-invariant_of-result c = subst IsInRange (sym (returns c)) c.requires.in_range
+invariant_of-result c = record {
+  range = subst IsInRange (sym (returns c)) c.requires.in_range;
+  ranks = ranks_of_setup _ c.args.named.order.ranks.items c.requires.ranks;
+  in_order = c.requires.in_order;
+  leading = c.requires.leading;
+}

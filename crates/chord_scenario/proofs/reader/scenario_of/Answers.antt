@@ -10,6 +10,8 @@ use Rattle.chord_scenario.specs.declared.key.FileKey.TheVariants as key
 use Rattle.chord_scenario.specs.declared.setting.Command.{Command}
 use Rattle.chord_scenario.specs.declared.setting.Node.{Node}
 use Rattle.chord_scenario.specs.Accepted.{IsSetupOf, setup_with, nodes_in, commands_in}
+use Rattle.chord_circle.specs.Circle.{leading}
+use Rattle.chord_scenario.specs.Order.{AreApart, AreRanksOf}
 use Rattle.chord_scenario.specs.Range.{IsInRange}
 use Rattle.chord_scenario.specs.Faults.{file_fault, first_answer}
 use Rattle.chord_scenario.specs.Groups.{key_questions, node_questions, late_questions}
@@ -18,10 +20,10 @@ use Rattle.chord_scenario.specs.Rows.{Row}
 use Rattle.chord_scenario.specs.Sections.{Section, section_of, sections}
 use Rattle.chord_scenario.specs.Settings.{bootstraps_of, commands_of, coordinates_of, nodes_of}
 use Rattle.chord_scenario.specs.Values.{number_at}
-use Rattle.chord_scenario.proofs.InRange.{KeysFit, keys_fit, in_range}
+use Rattle.chord_scenario.proofs.InRange.{KeysFit, keys_fit, in_range, nodes_apart}
 use Rattle.chord_scenario.proofs.LatencyFacts.{placed}
 use Rattle.chord_scenario.proofs.Questions.{first_answer-append}
-use Rattle.chord_scenario.proofs.Scenarios.{node_questions-distinct, latency-between}
+use Rattle.chord_scenario.proofs.Scenarios.{node_questions-distinct, node_questions-idents, latency-between}
 use Rattle.chord_scenario.proofs.Squares.{square_is}
 use Rattle.chord_scenario.proofs.reader.scenario_of.Goals as goal
 
@@ -200,6 +202,19 @@ bootstraps-requires c =
     tables c.in_ok-nodes.ensures.value in
     rw (c.as_slice-2.ensures.value, own) (fit top c.in_ok-circle.ensures.sound).nodes
 
+pub order_of-requires-clause-few : goal.order_of-requires-clause-few
+order_of-requires-clause-few c =
+    let top = table_view c.args.top.now in
+    let tables = ap (map section_of) c.as_slice-tables.ensures.value ∙ c.in_ok-placed.ensures in
+    let own = own_nodes top c.in_ok-circle.circle (map section_of c.as_slice-tables.result.now) c.in_ok-nodes.nodes.items c.in_ok-circle.ensures.value
+    tables c.in_ok-nodes.ensures.value in
+    rw (c.as_slice-3.ensures.value, own) (fit top c.in_ok-circle.ensures.sound).nodes
+
+pub order_of-requires-clause-apart : goal.order_of-requires-clause-apart
+order_of-requires-clause-apart c =
+    let idents = node_questions-idents (map section_of c.as_slice-tables.result.now) c.as_slice.result.now c.in_ok-names.ensures.sound in
+    subst AreApart (c.as_slice.ensures.value ∙ sym c.as_slice-3.ensures.value) (nodes_apart c.as_slice.result.now idents)
+
 pub checked_circle-requires : goal.checked_circle-requires
 checked_circle-requires c = ap (map section_of) c.as_slice-tables.ensures.value ∙ c.in_ok-placed.ensures
 
@@ -218,3 +233,16 @@ assembled-requires-clause-coordinates c =
 
 pub assembled-requires-clause-bootstraps : goal.assembled-requires-clause-bootstraps
 assembled-requires-clause-bootstraps c = c.in_ok-bootstraps.ensures ∙ ap bootstraps_of c.as_slice-2.ensures.value
+
+pub assembled-requires-clause-ranks : goal.assembled-requires-clause-ranks
+assembled-requires-clause-ranks c =
+    subst (λ (ns : List Node). AreRanksOf ns c.in_ok-order.order.ranks.items) c.as_slice-3.ensures.value c.in_ok-order.ensures.ranks
+
+pub assembled-requires-clause-in_order : goal.assembled-requires-clause-in_order
+assembled-requires-clause-in_order c = c.in_ok-order.ensures.nodes
+
+pub leading_bits-requires : goal.leading_bits-requires
+leading_bits-requires c = subst (All (λ n. n.ident < 2 ^ c.in_ok-circle.circle)) (sym c.as_slice-4.ensures.value) c.in_ok-nodes.ensures.on_circle
+
+pub assembled-requires-clause-leading : goal.assembled-requires-clause-leading
+assembled-requires-clause-leading c = c.in_ok-leading.ensures ∙ ap (map (λ n. leading c.in_ok-circle.circle n.ident)) c.as_slice-4.ensures.value

@@ -1,7 +1,0 @@
-use Rattle.std.proofs.Common.{◌≡◌, map}
-use Rattle.std.specs.List.{range_with_len}
-use Rattle.chord_audit.specs.Tables.{placed}
-use Rattle.chord_audit.proofs.ranks.placed_nodes.Given as goal
-
-abbrev pub invariant-loop-node : goal.invariant-loop-node
-invariant-loop-node l = l.order.items ≡ map (placed l.scenario) (range_with_len 0 l.node)
