@@ -194,15 +194,23 @@ noted-ranks nodes order ranks apart all_placed up noted = record { each = noted.
             le-ltb (slice_index ranks n) (slice_index ranks m) more ∙ sym (le-ltb (ident_in nodes n) (ident_in nodes m) above)
 
 -- and each node of the order has its own place as its rank
-pub noted-order : (order : List Placed) (ranks numbers : List ℕ) → AreNoted order ranks (length order) → numbers ≡ map (λ (p : Placed). p.node) order
-    → AreInOrder ranks numbers
-noted-order order ranks numbers noted same = record {
+pub noted-order : (nodes : List Node) (order : List Placed) (ranks numbers : List ℕ) → ArePlaced nodes order → AreNoted order ranks (length order)
+    → numbers ≡ map (λ (p : Placed). p.node) order → AreInOrder ranks numbers
+noted-order nodes order ranks numbers all_placed noted same = record {
   each = ap length same ∙ length-map order (λ (p : Placed). p.node) ∙ sym noted.each;
+  known = λ k lt.
+      let inside = there k lt in
+      omega (arith, number k inside, all_placed.known k inside, all_placed.each, noted.each);
   own = λ k lt.
-      let inside : k < length order = omega (arith, lt, ap length same, length-map order (λ (p : Placed). p.node)) in
-      ap (slice_index ranks) (ap (λ ns. slice_index ns k) same
-      ∙ get_or-map (λ (p : Placed). p.node) order k nowhere 0 inside) ∙ noted.own k inside;
+      let inside = there k lt in
+      ap (slice_index ranks) (number k inside) ∙ noted.own k inside;
 }
+  where
+    there : (k : ℕ) → k < length numbers → k < length order
+    there k lt = omega (arith, lt, ap length same, length-map order (λ (p : Placed). p.node))
+
+    number : (k : ℕ) → k < length order → slice_index numbers k ≡ (at order k).node
+    number k inside = ap (λ ns. slice_index ns k) same ∙ get_or-map (λ (p : Placed). p.node) order k nowhere 0 inside
 
 -- the ranks of the nodes of a scenario are those of its list of nodes
 pub ranks_of_setup : (sc : Setup) (ranks : List ℕ) → AreRanksOf sc.nodes ranks → AreRanks sc ranks

@@ -18,6 +18,7 @@ AreRanks sc ranks = AreRanksBy (node_count sc) (ident_of sc) ranks
 -- the nodes at the ranks, each at its own
 pub record AreInOrder (ranks nodes : List ℕ) : Type 0 where
   pub each : length nodes ≡ length ranks
+  pub known : (k : ℕ) → k < length nodes → slice_index nodes k < length ranks
   pub own : (k : ℕ) → k < length nodes → slice_index ranks (slice_index nodes k) ≡ k
 
 -- What follows is of a list of nodes.

@@ -8,10 +8,12 @@ use crate::setting::Node;
 use chord_circle::Raw;
 use std::alloc::{AllocError, Global};
 
-/// The nodes in the order of their identifiers, and the rank of each node in it.
+/// The nodes in the order of their identifiers. A rank is a place in this order, counted from 0.
 #[derive(Clone, Copy, Drop)]
 pub struct Order<'a> {
+    /// The number of the node at each rank.
     pub nodes: &'a [u32],
+    /// The rank of each node, by its number.
     pub ranks: &'a [u32],
 }
 

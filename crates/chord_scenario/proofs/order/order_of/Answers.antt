@@ -49,7 +49,9 @@ returns-clause-ranks c =
 
 pub returns-clause-nodes : goal.returns-clause-nodes
 returns-clause-nodes c =
+    let nodes = c.args.nodes.now in
     let order : List Placed = c.deref-placed-items.result.now in
+    let all_placed : ArePlaced nodes order = placed_lent nodes _ _ order c.in_ok-order.ensures c.sort_by_ident.ensures.moved c.deref-placed-items.ensures.value in
     let whole : c.loop-rank.rank ≡ length order = omega (arith, c.loop-rank-test.false, c.loop-rank.auto.rank-end) in
-    noted-order order c.loop-rank.ranks.items c.loop-rank.numbers.items (subst (AreNoted order c.loop-rank.ranks.items) whole c.loop-rank.invariant.noted)
+    noted-order nodes order c.loop-rank.ranks.items c.loop-rank.numbers.items all_placed (subst (AreNoted order c.loop-rank.ranks.items) whole c.loop-rank.invariant.noted)
     (c.loop-rank.invariant.numbers ∙ ap (λ k. map (λ (p : Placed). p.node) (take k order)) whole ∙ ap (map (λ (p : Placed). p.node)) (take-length order))
