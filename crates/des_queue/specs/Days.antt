@@ -11,7 +11,7 @@ use Rattle.des_queue.specs.declared.days.Days.{Days}
 
 -- how many days have a list
 abbrev pub list_count : ℕ
-list_count = 1024
+list_count = 2048
 
 -- the day of a key: a day has 1,024 microseconds
 abbrev pub day_of : Key → ℕ

@@ -13,8 +13,9 @@ use slab::Slab;
 use std::alloc::Global;
 use std::cmp::Reverse;
 
-/// The number of days that have a list.
-const DAYS: u64 = 1024;
+/// The number of days that have a list. These are two seconds: a timer of a second, with its jitter,
+/// still has a list.
+const DAYS: u64 = 2048;
 
 /// The length of a day in microseconds.
 const DAY: u64 = 1024;

@@ -9,28 +9,28 @@ returns-in-Err-clause-days g c = same_places c.args.self.now c.make_room.new.eve
 pub returns-in-Err-reserve-clause-days : goal.returns-in-Err-reserve-clause-days
 returns-in-Err-reserve-clause-days g c =
     let d = c.args.self.now in
-    (kept_list d c.make_room.new.events (c.args.time / 1024 % 1024) c.args.room c.index_mut.result.now c.reserve.new.self c.requires
+    (kept_list d c.make_room.new.events (c.args.time / 1024 % 2048) c.args.room c.index_mut.result.now c.reserve.new.self c.requires
     (λ i. (c.make_room.ensures.rest_kept i).slots) (omega (arith, c.if-at-len.false, c.len.ensures, d.lists.ok.0)) c.index_mut.ensures.value
     c.reserve.ensures.items).0
 
 pub returns-in-Err-reserve-clause-same : goal.returns-in-Err-reserve-clause-same
 returns-in-Err-reserve-clause-same g c =
     let d = c.args.self.now in
-    (kept_list d c.make_room.new.events (c.args.time / 1024 % 1024) c.args.room c.index_mut.result.now c.reserve.new.self c.requires
+    (kept_list d c.make_room.new.events (c.args.time / 1024 % 2048) c.args.room c.index_mut.result.now c.reserve.new.self c.requires
     (λ i. (c.make_room.ensures.rest_kept i).slots) (omega (arith, c.if-at-len.false, c.len.ensures, d.lists.ok.0)) c.index_mut.ensures.value
     c.reserve.ensures.items).1
 
 pub returns-clause-days : goal.returns-clause-days
 returns-clause-days g c =
     let d = c.args.self.now in
-    (kept_list d c.make_room.new.events (c.args.time / 1024 % 1024) c.args.room c.index_mut.result.now c.reserve.new.self c.requires
+    (kept_list d c.make_room.new.events (c.args.time / 1024 % 2048) c.args.room c.index_mut.result.now c.reserve.new.self c.requires
     (λ i. (c.make_room.ensures.rest_kept i).slots) (omega (arith, c.if-at-len.false, c.len.ensures, d.lists.ok.0)) c.index_mut.ensures.value
     c.reserve.ensures.items).0
 
 pub returns-clause-same : goal.returns-clause-same
 returns-clause-same g c =
     let d = c.args.self.now in
-    (kept_list d c.make_room.new.events (c.args.time / 1024 % 1024) c.args.room c.index_mut.result.now c.reserve.new.self c.requires
+    (kept_list d c.make_room.new.events (c.args.time / 1024 % 2048) c.args.room c.index_mut.result.now c.reserve.new.self c.requires
     (λ i. (c.make_room.ensures.rest_kept i).slots) (omega (arith, c.if-at-len.false, c.len.ensures, d.lists.ok.0)) c.index_mut.ensures.value
     c.reserve.ensures.items).1
 
