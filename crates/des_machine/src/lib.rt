@@ -9,7 +9,7 @@ mod machine;
 mod scribe;
 mod states;
 
-pub use ahead::{Ahead, fetch};
+pub use ahead::{Ahead, end_reads, fetch};
 pub use audit_clock::AuditClock;
 pub use journal::Journal;
 pub use machine::Machine;

@@ -93,7 +93,7 @@ pub trait Machine {
         0
     }
 
-    /// As `fetch_state`, of what a state refers to, such as its lists. It is called one event later.
+    /// As `fetch_state`, of what a state refers to, such as its lists. It is called some events later.
     fn fetch_lists(&self, _state: &Self::State) -> u64 {
         0
     }

@@ -20,6 +20,10 @@ const FEW: usize = 256;
 /// From how many pending events on their memory is hardly in a near cache.
 const MANY: usize = 8192;
 
+/// How many events are read ahead at once. So their reads wait for memory beside each other, and not
+/// one after the other.
+pub const GROUP: usize = 4;
+
 /// Events by day, which contracts see as their list in the order of their keys.
 ///
 /// The lists have places in a slab and not events: a slab gives out again first the place that was
@@ -89,19 +93,37 @@ impl<B: Drop> Calendar<B> {
         Some(waiting.key.0)
     }
 
-    /// Whether the calendar has many events.
+    /// Whether the next events are to be read ahead: the calendar has many events, and of those whose
+    /// day is open whole groups are left.
     #[inline(always)]
-    pub fn has_many(&self) -> bool {
-        self.days.events.len() >= MANY
+    pub fn begins_group(&self) -> bool {
+        self.due.len() % GROUP == 0 && self.days.events.len() >= MANY
     }
 
     /// The node to which the event comes that is `later` events after the first, if its day is open.
     #[inline(always)]
     pub fn target_ahead(&self, later: usize) -> Option<u32> {
+        let place = self.place_ahead(later)?;
+        let event = self.days.events.get(place)?;
+        Some(event.target)
+    }
+
+    /// Reads something of that event, in its first and in its last cache line.
+    #[inline(always)]
+    pub fn fetch_event(&self, later: usize) -> Option<u64> {
+        let place = self.place_ahead(later)?;
+        let event = self.days.events.get(place)?;
+        // The next place mostly begins in the cache line in which this one ends.
+        let has_next = self.days.events.contains(place.wrapping_add(1));
+        Some(u64::from(event.target).wrapping_add(u64::from(has_next)))
+    }
+
+    /// The place of that event.
+    #[inline(always)]
+    fn place_ahead(&self, later: usize) -> Option<usize> {
         let index = self.due.len().checked_sub(later)?.checked_sub(1)?;
         let waiting = self.due.get(index)?;
-        let event = self.days.events.get(waiting.place)?;
-        Some(event.target)
+        Some(waiting.place)
     }
 
     /// Takes the first event.

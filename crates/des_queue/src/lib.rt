@@ -9,5 +9,6 @@ mod room;
 mod waiting;
 mod window_queue;
 
+pub use calendar::GROUP;
 pub use pending::Pending;
 pub use window_queue::WindowQueue;

@@ -129,11 +129,11 @@ impl<B: Drop> Pending<B> {
         Some(other.time)
     }
 
-    /// Whether so many events are pending that what they need is hardly in a near cache. Events of the
-    /// heap do not count.
+    /// Whether to read ahead what the next groups of events need: so many are pending that it is hardly
+    /// in a near cache, and the first event begins a group. Events of the heap do not count.
     #[inline(always)]
-    pub fn has_many(&self) -> bool {
-        self.calendar.has_many()
+    pub fn begins_group(&self) -> bool {
+        self.calendar.begins_group()
     }
 
     /// The node to which the event comes that is `later` events after the first. Events of the heap are
@@ -141,6 +141,13 @@ impl<B: Drop> Pending<B> {
     #[inline(always)]
     pub fn target_ahead(&self, later: usize) -> Option<u32> {
         self.calendar.target_ahead(later)
+    }
+
+    /// Reads something of that event, so that its memory is in a cache soon. What it returns has no
+    /// meaning.
+    #[inline(always)]
+    pub fn fetch_event(&self, later: usize) -> Option<u64> {
+        self.calendar.fetch_event(later)
     }
 
     /// Takes the first event.

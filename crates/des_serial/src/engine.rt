@@ -11,9 +11,9 @@ ghost use Rattle.des_queue.specs.EventKey.{event_key};
 ghost use Rattle.des_serial.specs.SerialEngine.{HasTaken, IsAt};
 
 use des_event::{Event, RunError};
-use des_machine::{Ahead, AuditClock, Journal, Machine, Scribe, fetch};
+use des_machine::{Ahead, AuditClock, Journal, Machine, Scribe, end_reads, fetch};
 use des_output::Watched;
-use des_queue::Pending;
+use des_queue::{GROUP, Pending};
 use std::alloc::Global;
 use std::io::Write;
 
@@ -52,7 +52,7 @@ impl<M: Machine, S: Scribe<M> + Drop> SerialEngine<M, S> {
 
     /// Takes the next event of the run, or returns `None` if the run has no more. Returns
     /// `TooManyEvents` if an event is left but the run may have no more.
-    // Inlined, since a call would copy the event twice more.
+    // Inlined: by a call the event would be copied twice on its way out.
     #[inline(always)]
     pub fn take_next(&mut self, machine: &M) -> Result<Option<Event<M::Body>>, RunError>
         ensures next { IfOk result (λ next. IfSome next (λ event. (old now : Option (List ℕ)) → IsAt (S.text machine.now) (M.model machine.now) (S.HasCounted machine.now) old now self.old → HasTaken (S.text machine.now) (M.model machine.now) (S.HasCounted machine.now) old now self.new event)) }
@@ -111,15 +111,25 @@ impl<M: Machine, S: Scribe<M> + Drop> SerialEngine<M, S> {
     /// Reads a little of what the next events need, if many events are pending.
     #[inline(always)]
     fn look_ahead(&self, alloc: Global, machine: &M) {
-        if !self.pending.has_many() {
-            return;
+        if self.pending.begins_group() {
+            self.fetch_groups(alloc, machine);
         }
-        let ahead = Ahead {
-            first: self.state_ahead(0),
-            second: self.state_ahead(1),
-            third: self.pending.target_ahead(2),
-        };
-        fetch(alloc, machine, ahead);
+    }
+
+    /// Reads a little of what the next three groups of events need: the lists of the first, the states
+    /// of the second, and the events of the third.
+    #[inline(never)]
+    fn fetch_groups(&self, alloc: Global, machine: &M) {
+        let mut read = 0u64;
+        for later in 0..GROUP {
+            let ahead = Ahead {
+                first: self.state_ahead(later),
+                second: self.state_ahead(later + GROUP),
+                third: self.pending.fetch_event(later + 2 * GROUP),
+            };
+            read = read.wrapping_add(fetch(machine, ahead));
+        }
+        end_reads(alloc, read);
     }
 
     /// The state of the node to which the event comes that is `later` events after the next one.

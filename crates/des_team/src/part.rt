@@ -1,10 +1,7 @@
 //! A part of the nodes, and its run in a window.
-ghost use Rattle.std.specs.Prelude.{◌≡◌, ◌↔◌, ◌++◌, ◌<◌, ◌^◌, [], length, IfOk, IfErr, OnOk};
-ghost use Rattle.std.specs.List.{All, Contains};
-ghost use Rattle.des_event.specs.declared.event.Event.{Event as AnEvent};
-ghost use Rattle.des_event.specs.KeyOrder.{InKeyOrder};
+ghost use Rattle.std.specs.Prelude.{◌≡◌, ◌++◌, ◌<◌, ◌^◌, [], length, IfOk, IfErr, OnOk};
+ghost use Rattle.std.specs.List.{All};
 ghost use Rattle.des_model.specs.Windows.{part_of};
-ghost use Rattle.des_queue.specs.EventKey.{event_key};
 ghost use Rattle.des_team.specs.Chronicles.{chronicle};
 ghost use Rattle.des_team.specs.Orders.{HasRunAll, IsFault, IsDone, IsOrder, MayRun};
 ghost use Rattle.des_team.specs.Running.{HasHandled, HasSent, HasTakenIn, CanHandle, is_due};
@@ -14,8 +11,8 @@ use crate::layout::Layout;
 use crate::mail::{Inbox, Outbox};
 use crate::output::Output;
 use des_event::{Event, Memory, RunError};
-use des_machine::{Ahead, Machine, Scribe, fetch};
-use des_queue::Pending;
+use des_machine::{Ahead, Machine, Scribe, end_reads, fetch};
+use des_queue::{GROUP, Pending};
 use des_window::sooner;
 use std::alloc::Global;
 use std::mem;
@@ -155,15 +152,25 @@ impl<M: Machine, S: Scribe<M> + Drop> OwnedPart<M, S> {
     /// Reads a little of what the next events need, if many events are pending.
     #[inline(always)]
     fn look_ahead(&self, alloc: Global, machine: &M, layout: &Layout) {
-        if !self.pending.has_many() {
-            return;
+        if self.pending.begins_group() {
+            self.fetch_groups(alloc, machine, layout);
         }
-        let ahead = Ahead {
-            first: self.state_ahead(layout, 0),
-            second: self.state_ahead(layout, 1),
-            third: self.pending.target_ahead(2),
-        };
-        fetch(alloc, machine, ahead);
+    }
+
+    /// Reads a little of what the next three groups of events need: the lists of the first, the states
+    /// of the second, and the events of the third.
+    #[inline(never)]
+    fn fetch_groups(&self, alloc: Global, machine: &M, layout: &Layout) {
+        let mut read = 0u64;
+        for later in 0..GROUP {
+            let ahead = Ahead {
+                first: self.state_ahead(layout, later),
+                second: self.state_ahead(layout, later + GROUP),
+                third: self.pending.fetch_event(later + 2 * GROUP),
+            };
+            read = read.wrapping_add(fetch(machine, ahead));
+        }
+        end_reads(alloc, read);
     }
 
     /// The state of the node to which the event comes that is `later` events after the next one.
