@@ -1,5 +1,5 @@
 //! The judge.
-ghost use Rattle.std.specs.Prelude.{◌≡◌, ℕ, ◌+◌, ◌^◌, ◌<◌, ◌≤◌, ◌==◌, ◌&&◌, ◌++◌, [], ◌∷◌, IsTrue, OnOk, Some, cond};
+ghost use Rattle.std.specs.Prelude.{◌≡◌, ℕ, ◌+◌, ◌^◌, ◌<◌, ◌==◌, ◌&&◌, ◌++◌, [], ◌∷◌, IsTrue, OnOk, Some, cond};
 ghost use Rattle.std.specs.List.{All};
 ghost use Rattle.chord_judge.specs.Open.{nodes_of};
 ghost use Rattle.chord_judge.specs.Rows.{ends_by};

@@ -1,5 +1,5 @@
 //! The states of the nodes at the start of a run.
-ghost use Rattle.std.specs.Prelude.{◌≡◌, ℕ, true, unwrap_or, ◌+◌, ◌-◌, ◌^◌, ◌<◌, ◌≤◌, length, map, slice_get, take, All, IfOk, OnOk};
+ghost use Rattle.std.specs.Prelude.{◌≡◌, true, unwrap_or, ◌+◌, ◌-◌, ◌<◌, ◌≤◌, length, map, slice_get, All, IfOk, OnOk};
 ghost use Rattle.std.specs.List.{range_with_len, AllWithin};
 ghost use Rattle.std.specs.List.Sorted.{IsNonDecreasingBy, IsPermutation};
 ghost use Rattle.chord_scenario.specs.Start.{initial_nodes, timers};

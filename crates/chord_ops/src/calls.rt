@@ -1,5 +1,5 @@
 //! Outstanding calls, and the head of the successor list.
-ghost use Rattle.std.specs.Prelude.{◌≡◌, ◌==◌, ℕ, not, filter, OnOk};
+ghost use Rattle.std.specs.Prelude.{◌≡◌, ◌==◌, not, filter, OnOk};
 ghost use Rattle.chord_node.specs.Invariant.{AllNodes};
 ghost use Rattle.chord_ops.specs.Procedures.{call_of, without_call};
 ghost use Rattle.chord_ops.specs.Rules.{has_ping_call, head, head_notified};

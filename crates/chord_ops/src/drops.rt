@@ -1,5 +1,5 @@
 //! Nodes that are dropped because they did not answer.
-ghost use Rattle.std.specs.Prelude.{◌≡◌, ◌==◌, ◌<◌, ◌≤◌, not, None, true, IfOk, IfSome, OnOk, is_some, slice_get, if◌then◌else◌};
+ghost use Rattle.std.specs.Prelude.{◌≡◌, ◌==◌, ◌<◌, not, None, true, IfOk, IfSome, OnOk, is_some, slice_get, if◌then◌else◌};
 ghost use Rattle.std.specs.List.{list_any};
 ghost use Rattle.chord_node.specs.Invariant.{AllNodes, IsNodeState};
 ghost use Rattle.chord_scenario.specs.World.{node_count};

@@ -1,5 +1,5 @@
 //! How a node leaves, and what the others do then.
-ghost use Rattle.std.specs.Prelude.{◌≡◌, ℕ, ◌+◌, ◌-◌, ◌^◌, ◌<◌, ◌≤◌, IfSome, OnOk};
+ghost use Rattle.std.specs.Prelude.{◌≡◌, ◌-◌, ◌<◌, IfSome, OnOk};
 ghost use Rattle.chord_node.specs.Invariant.{AllNodes, IsNodeState};
 ghost use Rattle.chord_scenario.specs.World.{node_count};
 ghost use Rattle.chord_ops.specs.Procedures.{departed, head_told, told};

@@ -1,5 +1,5 @@
 //! Scenarios, as a run reads them.
-ghost use Rattle.std.specs.Prelude.{◌≡◌, ◌<◌, ◌≤◌, ◌^◌, length, slice_get, Some};
+ghost use Rattle.std.specs.Prelude.{◌≡◌, ◌<◌, ◌^◌, length, slice_get, Some};
 ghost use Rattle.chord_circle.specs.Circle.{leading};
 ghost use Rattle.chord_scenario.specs.Order.{AreInOrder, AreRanks};
 ghost use Rattle.chord_scenario.specs.Range.{IsInRange};
@@ -44,6 +44,7 @@ pub struct Scenario {
     pub(crate) lookups: Option<Span>,
     pub(crate) nodes: Vec<Node>,
     pub(crate) bootstraps: Vec<u32>,
+    /// The nodes in the order of their identifiers.
     pub(crate) order: KeptOrder,
     /// The leading bits of the identifier of each node in turn.
     pub(crate) leading: Vec<u32>,

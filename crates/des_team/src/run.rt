@@ -1,7 +1,6 @@
 //! A run by a team.
-ghost use Rattle.std.specs.Prelude.{◌≡◌, ◌≢◌, ◌⊎◌, ℕ, ◌+◌, ◌<◌, ◌≤◌, List, Option, None, Some, false, length, OnOk, IfOk, IfErr, IfSome, Err};
+ghost use Rattle.std.specs.Prelude.{◌≡◌, ◌≢◌, ◌⊎◌, ◌+◌, ◌<◌, ◌≤◌, Some, false, length, OnOk, IfOk, IfErr, Err};
 ghost use Rattle.std.specs.Thread.{IsSync};
-ghost use Rattle.des_model.specs.Histories.{IsOverLimit};
 ghost use Rattle.des_machine.specs.Runs.{IsRun};
 ghost use Rattle.des_team.specs.Chronicles.{chronicle};
 ghost use Rattle.des_team.specs.Layouts.{IsLayout};

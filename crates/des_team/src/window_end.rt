@@ -13,7 +13,7 @@ use crate::course::Course;
 use crate::output::{Output, write_outputs};
 use crate::part::{Done, Parcel};
 use crate::team::Team;
-use des_event::{Event, Memory, RunError};
+use des_event::{Memory, RunError};
 use des_machine::{Machine, Scribe};
 use des_output::{Watched, write_text};
 use des_window::sooner;

@@ -1,5 +1,5 @@
 //! The run of one window by the team.
-ghost use Rattle.std.specs.Prelude.{◌≡◌, ◌⊎◌, ◌*◌, ◌/◌, ◌^◌, ◌<◌, ◌≤◌, ℕ, List, [], Option, None, Some, length, max, OnOk, IfOk, IfErr, IfSome, Err};
+ghost use Rattle.std.specs.Prelude.{◌≡◌, ◌⊎◌, ◌*◌, ◌/◌, ◌^◌, ◌<◌, ◌≤◌, [], Option, None, Some, length, max, OnOk, IfOk, IfErr, IfSome, Err};
 ghost use Rattle.des_model.specs.Histories.{IsOverLimit};
 ghost use Rattle.des_output.specs.Faults.{rank_of};
 ghost use Rattle.des_team.specs.Chronicles.{chronicle};
