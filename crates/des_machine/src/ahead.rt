@@ -2,31 +2,44 @@
 use crate::machine::Machine;
 use std::alloc::Global;
 
-/// What some later events need, as far as it is known: the states of the nodes to which the first two
-/// come, and something that was read of the third.
-#[derive(Clone, Copy, Drop)]
-pub struct Ahead<'a, S> {
-    pub first: Option<&'a S>,
-    pub second: Option<&'a S>,
-    pub third: Option<u64>,
+/// The events that come after the next one, as far as they are known, by how many events later each
+/// comes. No contract speaks of them: they are hints of what to read.
+pub trait Upcoming<S> {
+    /// The state of the node to which that event comes.
+    fn state(&self, later: usize) -> Option<&S>;
+
+    /// Reads something of that event, so that its memory is in a cache soon. What it returns has no
+    /// meaning.
+    fn fetch_event(&self, later: usize) -> Option<u64>;
 }
 
-/// Reads a little of what later events need. It changes nothing, and what it returns has no meaning.
-#[inline(always)]
-pub fn fetch<M: Machine>(machine: &M, ahead: Ahead<'_, M::State>) -> u64 {
-    let mut read = ahead.third.unwrap_or(0);
-    if let Some(state) = ahead.second {
-        read = read.wrapping_add(machine.fetch_state(state));
+/// Reads a little of what the next three groups of `group` events need: the lists of the first, the
+/// states of the second, and the events of the third. Once in 2^64 calls it takes memory for a number
+/// and gives it back.
+#[inline(never)]
+pub fn read_ahead<M: Machine, U: Upcoming<M::State>>(
+    alloc: Global,
+    machine: &M,
+    upcoming: &U,
+    group: usize,
+) {
+    let mut read = 0u64;
+    for later in 0..group {
+        if let Some(state) = upcoming.state(later) {
+            read = read.wrapping_add(machine.fetch_lists(state));
+        }
+        if let Some(state) = upcoming.state(later.wrapping_add(group)) {
+            read = read.wrapping_add(machine.fetch_state(state));
+        }
+        let event = upcoming.fetch_event(later.wrapping_add(group.wrapping_mul(2)));
+        read = read.wrapping_add(event.unwrap_or(0));
     }
-    if let Some(state) = ahead.first {
-        read = read.wrapping_add(machine.fetch_lists(state));
-    }
-    read
+    end_reads(alloc, read);
 }
 
 /// Ends some reads. A compiler leaves out reads whose numbers change nothing.
 #[inline(always)]
-pub fn end_reads(alloc: Global, read: u64) {
+fn end_reads(alloc: Global, read: u64) {
     if read == u64::MAX {
         note(alloc, read);
     }

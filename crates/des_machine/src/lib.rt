@@ -9,7 +9,7 @@ mod machine;
 mod scribe;
 mod states;
 
-pub use ahead::{Ahead, end_reads, fetch};
+pub use ahead::{Upcoming, read_ahead};
 pub use audit_clock::AuditClock;
 pub use journal::Journal;
 pub use machine::Machine;

@@ -11,7 +11,7 @@ ghost use Rattle.des_queue.specs.EventKey.{event_key};
 ghost use Rattle.des_serial.specs.SerialEngine.{HasTaken, IsAt};
 
 use des_event::{Event, RunError};
-use des_machine::{Ahead, AuditClock, Journal, Machine, Scribe, end_reads, fetch};
+use des_machine::{AuditClock, Journal, Machine, Scribe, Upcoming, read_ahead};
 use des_output::Watched;
 use des_queue::{GROUP, Pending};
 use std::alloc::Global;
@@ -112,31 +112,8 @@ impl<M: Machine, S: Scribe<M> + Drop> SerialEngine<M, S> {
     #[inline(always)]
     fn look_ahead(&self, alloc: Global, machine: &M) {
         if self.pending.begins_group() {
-            self.fetch_groups(alloc, machine);
+            read_ahead(alloc, machine, self, GROUP);
         }
-    }
-
-    /// Reads a little of what the next three groups of events need: the lists of the first, the states
-    /// of the second, and the events of the third.
-    #[inline(never)]
-    fn fetch_groups(&self, alloc: Global, machine: &M) {
-        let mut read = 0u64;
-        for later in 0..GROUP {
-            let ahead = Ahead {
-                first: self.state_ahead(later),
-                second: self.state_ahead(later + GROUP),
-                third: self.pending.fetch_event(later + 2 * GROUP),
-            };
-            read = read.wrapping_add(fetch(machine, ahead));
-        }
-        end_reads(alloc, read);
-    }
-
-    /// The state of the node to which the event comes that is `later` events after the next one.
-    #[inline(always)]
-    fn state_ahead(&self, later: usize) -> Option<&M::State> {
-        let node = self.pending.target_ahead(later)?;
-        self.states.get(node as usize)
     }
 
     /// Writes the remaining audits, and makes the report.
@@ -181,6 +158,19 @@ impl<M: Machine, S: Scribe<M> + Drop> SerialEngine<M, S> {
             self.handle(alloc, machine, &event, writer)?;
         }
         self.finish(alloc, machine, writer)
+    }
+}
+
+impl<M: Machine, S> Upcoming<M::State> for SerialEngine<M, S> {
+    #[inline(always)]
+    fn state(&self, later: usize) -> Option<&M::State> {
+        let node = self.pending.target_ahead(later)?;
+        self.states.get(node as usize)
+    }
+
+    #[inline(always)]
+    fn fetch_event(&self, later: usize) -> Option<u64> {
+        self.pending.fetch_event(later)
     }
 }
 

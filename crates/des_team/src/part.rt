@@ -11,7 +11,7 @@ use crate::layout::Layout;
 use crate::mail::{Inbox, Outbox};
 use crate::output::Output;
 use des_event::{Event, Memory, RunError};
-use des_machine::{Ahead, Machine, Scribe, end_reads, fetch};
+use des_machine::{Machine, Scribe, Upcoming, read_ahead};
 use des_queue::{GROUP, Pending};
 use des_window::sooner;
 use std::alloc::Global;
@@ -35,6 +35,27 @@ pub struct OwnedPart<M: Machine, S> {
     /// Unused memory between this part and the next one. The boxes of parts lie side by side, and two
     /// workers that write to one cache line would wait for each other.
     pub apart: [u64; 16],
+}
+
+/// A part, and where its nodes' states are, to read ahead what its next events need.
+#[derive(Clone, Copy, Drop)]
+struct PartAhead<'a, M: Machine, S> {
+    part: &'a OwnedPart<M, S>,
+    layout: &'a Layout,
+}
+
+impl<'a, M: Machine, S> Upcoming<M::State> for PartAhead<'a, M, S> {
+    #[inline(always)]
+    fn state(&self, later: usize) -> Option<&M::State> {
+        let node = self.part.pending.target_ahead(later)?;
+        let slot = *self.layout.slots.get(node as usize)?;
+        self.part.states.get(slot as usize)
+    }
+
+    #[inline(always)]
+    fn fetch_event(&self, later: usize) -> Option<u64> {
+        self.part.pending.fetch_event(later)
+    }
 }
 
 /// A part on its way to a window, which follows the first `count` events of the run.
@@ -153,32 +174,9 @@ impl<M: Machine, S: Scribe<M> + Drop> OwnedPart<M, S> {
     #[inline(always)]
     fn look_ahead(&self, alloc: Global, machine: &M, layout: &Layout) {
         if self.pending.begins_group() {
-            self.fetch_groups(alloc, machine, layout);
+            let upcoming = PartAhead { part: self, layout };
+            read_ahead(alloc, machine, &upcoming, GROUP);
         }
-    }
-
-    /// Reads a little of what the next three groups of events need: the lists of the first, the states
-    /// of the second, and the events of the third.
-    #[inline(never)]
-    fn fetch_groups(&self, alloc: Global, machine: &M, layout: &Layout) {
-        let mut read = 0u64;
-        for later in 0..GROUP {
-            let ahead = Ahead {
-                first: self.state_ahead(layout, later),
-                second: self.state_ahead(layout, later + GROUP),
-                third: self.pending.fetch_event(later + 2 * GROUP),
-            };
-            read = read.wrapping_add(fetch(machine, ahead));
-        }
-        end_reads(alloc, read);
-    }
-
-    /// The state of the node to which the event comes that is `later` events after the next one.
-    #[inline(always)]
-    fn state_ahead(&self, layout: &Layout, later: usize) -> Option<&M::State> {
-        let node = self.pending.target_ahead(later)?;
-        let slot = *layout.slots.get(node as usize)?;
-        self.states.get(slot as usize)
     }
 
     /// Runs the events of a window, the least first. Returns how many it ran, and the time of the
