@@ -14,8 +14,8 @@ pub trait Upcoming<S> {
 }
 
 /// Reads a little of what the next three groups of `group` events need: the lists of the first, the
-/// states of the second, and the events of the third. Once in 2^64 calls it takes memory for a number
-/// and gives it back.
+/// states of the second, and the events of the third. One call in 2^64 takes memory for a number and
+/// gives it back.
 #[inline(never)]
 pub fn read_ahead<M: Machine, U: Upcoming<M::State>>(
     alloc: Global,
