@@ -1,5 +1,5 @@
 -- Events by day.
-use Rattle.std.specs.Prelude.{◌≡◌, ℕ, ◌+◌, ◌/◌, ◌%◌, ◌<◌, ◌≤◌, List, [], ◌∷◌, ⊤, map, length, slice_index_or, vec_len, vec_capacity, Some, None, IsSomeAnd}
+use Rattle.std.specs.Prelude.{◌≡◌, ℕ, ◌+◌, ◌/◌, ◌%◌, ◌^◌, ◌<◌, ◌≤◌, List, [], ◌∷◌, ⊤, map, length, slice_index_or, vec_len, vec_capacity, Some, None, IsSomeAnd}
 use Rattle.std.specs.List.{AllByRecursion, flat_map}
 use Rattle.std.specs.List.Sorted.{IsPermutation}
 use Rattle.std.specs.Global.{Vec}
@@ -62,7 +62,7 @@ module _ {B : Type 0} where
     pub slots : new.events.slots ≡ old.events.slots
     pub places : places_in new ≡ places_in old
 
-  -- there is room for an event of this time, and for its place in the list at the index
+  -- there is room for an event of this time at a place below 2 ^ 32, and for that place in the list at the index
   pub record MayTake (d : Days B) (time at room : ℕ) : Type 0 where
     pub later : d.today < time / 1024
     pub soon : time / 1024 < d.today + list_count
@@ -71,6 +71,7 @@ module _ {B : Type 0} where
     pub fit : (l : Vec ℕ) → length (slice_index_or d.lists.items at l).items < room
     pub free : (l : Vec ℕ) → vec_len (slice_index_or d.lists.items at l) < vec_capacity (slice_index_or d.lists.items at l)
     pub vacant : HasRoomFor d.events 1
+    pub small : d.events.capacity ≤ 2 ^ 32
 
   -- the event is at a place that was free, and in a list
   pub record HasTaken (old : Days B) (e : Event B) (new : Days B) : Type 0 where

@@ -23,6 +23,9 @@ const DAY: u64 = 1024;
 /// The number of events that one day may have.
 const MOST: usize = 8192;
 
+/// The most places of events: each is below 2^32.
+const MOST_PLACES: usize = 4_294_967_296;
+
 /// The most room that a list keeps when it is emptied.
 const KEPT: usize = 64;
 
@@ -30,8 +33,9 @@ const KEPT: usize = 64;
 /// days after the last opened one have any.
 #[derive(Drop)]
 pub struct Days<B> {
-    /// The places of the events of day `d` are in list `d % DAYS`.
-    pub lists: Vec<Vec<usize>>,
+    /// The places of the events of day `d` are in list `d % DAYS`. They are stored as u32, which
+    /// takes half of the memory.
+    pub lists: Vec<Vec<u32>>,
     /// The day that was opened last.
     pub today: u64,
     /// No event in the lists has a later day.
@@ -70,8 +74,8 @@ impl<B: Drop> Days<B> {
     }
 
     /// The index of the list that takes an event of this time, once there is room for it. None if the
-    /// day of the time has no list or is too far ahead, if the list has no room, or if an allocation
-    /// fails.
+    /// day of the time has no list or is too far ahead, if the list has no room, if there are 2^32
+    /// places or more, or if an allocation fails.
     #[inline(always)]
     pub fn list_for(&mut self, time: u64, room: usize) -> Option<usize>
         requires { AreDays self.old room }
@@ -90,6 +94,9 @@ impl<B: Drop> Days<B> {
         if let Err(_refused) = make_room(&mut self.events) {
             return None;
         }
+        if self.events.capacity() > MOST_PLACES {
+            return None;
+        }
         if let Err(_refused) = self.lists[at].reserve(1) {
             return None;
         }
@@ -104,7 +111,7 @@ impl<B: Drop> Days<B> {
     {
         let day = event.key.time / DAY;
         let place = self.events.insert_reserved(event);
-        self.lists[at].push_reserved(place);
+        self.lists[at].push_reserved(place as u32);
         self.latest = self.latest.max(day);
     }
 
@@ -183,7 +190,7 @@ impl<B: Drop> Days<B> {
 
 /// Empties a list. One with much room gives its memory back: otherwise each list would keep the room
 /// for the most events that one of its days has had.
-fn empty_list(places: &mut Vec<usize>)
+fn empty_list(places: &mut Vec<u32>)
     ensures { places.new.items ≡ [] }
 {
     if places.capacity() > KEPT {
@@ -196,7 +203,7 @@ fn empty_list(places: &mut Vec<usize>)
 /// Adds the entries of the events at some places.
 fn add_entries<B: Drop>(
     events: &Slab<Event<B>>,
-    places: &Vec<usize>,
+    places: &Vec<u32>,
     entries: &mut Vec<Waiting<usize>>,
 )
     requires there { All (ContainsKey events.now) places.now.items }
@@ -205,7 +212,7 @@ fn add_entries<B: Drop>(
     ensures capacity { vec_capacity entries.old ≤ vec_capacity entries.new }
 {
     for place in places {
-        let place = *place;
+        let place = *place as usize;
         let key = Reverse(events[place].key);
         match entries.push(Waiting { key, place }) {
             Ok(()) => {}
@@ -215,7 +222,7 @@ fn add_entries<B: Drop>(
 }
 
 /// Empty lists, one for each day, or fewer if an allocation fails.
-fn empty_lists(alloc: Global) -> Vec<Vec<usize>>
+fn empty_lists(alloc: Global) -> Vec<Vec<u32>>
     ensures { AllByRecursion (λ l. l.items ≡ []) result.items }
 {
     let mut lists = Vec::new(alloc);

@@ -6,6 +6,10 @@ use Rattle.des_queue.proofs.days.Days.list_for.Goals as goal
 pub returns-in-Err-clause-days : goal.returns-in-Err-clause-days
 returns-in-Err-clause-days g c = same_places c.args.self.now c.make_room.new.events c.args.room (λ i. (c.make_room.ensures.rest_kept i).slots) c.requires
 
+pub returns-then-capacity-gt-MOST_PLACES-clause-days : goal.returns-then-capacity-gt-MOST_PLACES-clause-days
+returns-then-capacity-gt-MOST_PLACES-clause-days g c =
+    same_places c.args.self.now c.make_room.new.events c.args.room (λ i. (c.make_room.ensures.rest_kept i).slots) c.requires
+
 pub returns-in-Err-reserve-clause-days : goal.returns-in-Err-reserve-clause-days
 returns-in-Err-reserve-clause-days g c =
     let d = c.args.self.now in
@@ -43,4 +47,5 @@ returns-clause-takes g c = record {
   fit = grind (arith, common_steps);
   free = grind (arith, common_steps);
   vacant = grind (arith, common_steps);
+  small = grind (arith, common_steps);
 }
