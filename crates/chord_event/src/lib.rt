@@ -8,7 +8,7 @@ mod line;
 
 pub use block::Block;
 pub use body::{Answer, Body};
-pub use des_event::{Copied, Key, Listed, Memory, RunError};
+pub use des_event::{Boxed, Copied, Key, Listed, Memory, RunError};
 pub use line::{CommandKind, Line, MessageKind};
 
 /// An event of Chord.

@@ -96,7 +96,7 @@ impl<'s> Machine for ChordRing<'s> {
 
     #[inline(always)]
     fn fetch_state(&self, state: &NodeState) -> u64 {
-        // A state has four cache lines. These numbers lie in three of them.
+        // A state lies in three or four cache lines. These numbers are in three of them.
         let calls = state.calls.as_slice().len() as u64;
         state.epoch.wrapping_add(calls).wrapping_add(state.count)
     }

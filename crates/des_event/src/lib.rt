@@ -1,12 +1,14 @@
 //! Events with bodies of any type, their keys, lists as contracts see them, and the errors of a run.
 #![tactic(auto)]
 
+mod boxed;
 mod copied;
 mod error;
 mod event;
 mod key;
 mod listed;
 
+pub use boxed::Boxed;
 pub use copied::Copied;
 pub use error::{Memory, RunError};
 pub use event::Event;

@@ -2,8 +2,9 @@
 use crate::machine::Machine;
 use std::alloc::Global;
 
-/// The events that come after the next one, as far as they are known, by how many events later each
-/// comes. No contract speaks of them: they are hints of what to read.
+/// The events that come next, as far as they are known, by how many events later than the next one
+/// each comes: the next one has number 0. No contract speaks of them: they are hints of what to
+/// read.
 pub trait Upcoming<S> {
     /// The state of the node to which that event comes.
     fn state(&self, later: usize) -> Option<&S>;

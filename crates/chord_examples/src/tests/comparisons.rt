@@ -1,6 +1,6 @@
 //! Comparisons of events and of states, whose types have no `==`.
 use chord_circle::Ident;
-use chord_event::{Answer, Body, Event};
+use chord_event::{Answer, Body, Boxed, Event};
 use chord_node::{Attempt, Lookup, NodeState};
 
 /// What a body carries: the name of its kind, the number of its call, its life or its node, its key, its answer, and its
@@ -112,11 +112,13 @@ fn are_same_lookups(some: &[Lookup], others: &[Lookup]) -> bool {
 }
 
 /// Whether two attempts to join have come equally far, if there are any.
-fn is_same_attempt(one: &Option<Attempt>, other: &Option<Attempt>) -> bool {
+fn is_same_attempt(one: &Option<Boxed<Attempt>>, other: &Option<Boxed<Attempt>>) -> bool {
     match (one, other) {
         (Some(one), Some(other)) => {
+            let (one, other) = (one.as_ref(), other.as_ref());
             one.failures == other.failures
                 && one.steps == other.steps
+                && one.answered == other.answered
                 && one.avoid.as_slice() == other.avoid.as_slice()
         }
         (None, None) => true,
