@@ -2,7 +2,7 @@
 ghost use Rattle.std.specs.Prelude.{◌≡◌, IfOk};
 
 use chord_circle::Ident;
-use des_event::{Copied, Listed, Memory};
+use des_event::{Brief, Copied, Listed, Memory, Short};
 
 /// The reply to one step of a search: the owner of the key, the node to ask next, or `Stuck` if the
 /// node knows neither.
@@ -141,5 +141,43 @@ impl Body {
 impl Copied for Body {
     fn try_copy(&self) -> Result<Body, Memory> {
         self.try_clone()
+    }
+}
+
+/// Timers and timeouts have a short form: most events that wait are such.
+impl Brief for Body {
+    ghost use Rattle.chord_event.specs.Bodies.{spelled_out};
+
+    ghost long = { spelled_out };
+
+    #[inline(always)]
+    fn shorten(&self) -> Option<Short> {
+        let (kind, number) = match self {
+            Body::Timeout { call } => (0, *call),
+            Body::StabilizeTick { epoch } => (1, *epoch),
+            Body::FingerTick { epoch } => (2, *epoch),
+            Body::TrafficTick { epoch } => (3, *epoch),
+            Body::LifeEnd { epoch } => (4, *epoch),
+            Body::Rise { epoch } => (5, *epoch),
+            Body::CheckTick { epoch } => (6, *epoch),
+            Body::Rejoin { epoch } => (7, *epoch),
+            _ => return None,
+        };
+        Some(Short { kind, number })
+    }
+
+    #[inline(always)]
+    fn lengthen(short: Short) -> Body {
+        let epoch = short.number;
+        match short.kind {
+            1 => Body::StabilizeTick { epoch },
+            2 => Body::FingerTick { epoch },
+            3 => Body::TrafficTick { epoch },
+            4 => Body::LifeEnd { epoch },
+            5 => Body::Rise { epoch },
+            6 => Body::CheckTick { epoch },
+            7 => Body::Rejoin { epoch },
+            _ => Body::Timeout { call: epoch },
+        }
     }
 }

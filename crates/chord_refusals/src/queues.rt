@@ -10,7 +10,7 @@ use chord_event::{Body, Event, Key};
 use chord_queue::{Pending, WindowQueue};
 use std::alloc::Global;
 
-/// An event of this time.
+/// An event of this time: a timeout, which has a short form, or at time 7 a message.
 fn event_at(time: u64) -> Event
     ensures { result.key ≡ record { time = time; origin = 2; number = time } }
 {
@@ -22,7 +22,11 @@ fn event_at(time: u64) -> Event
     Event {
         key,
         target: 0,
-        body: Body::Notify,
+        body: if time == 7 {
+            Body::Notify
+        } else {
+            Body::Timeout { call: time }
+        },
     }
 }
 

@@ -1,6 +1,6 @@
 //! A world that can be simulated.
 use crate::states::States;
-use des_event::{Event, Memory};
+use des_event::{Brief, Event, Memory};
 use std::alloc::Global;
 
 /// A world of numbered nodes. Each node has a state, and acts on its events one at a time: an event
@@ -20,7 +20,7 @@ pub trait Machine {
     type State: Drop;
 
     /// What an event asks of its target.
-    type Body: Drop;
+    type Body: Brief + Drop;
 
     /// What an event or an audit leaves in the trace.
     type Piece: Drop;

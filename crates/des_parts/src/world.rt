@@ -8,7 +8,7 @@ ghost use Rattle.des_parts.specs.declared.world.World.{World as AWorld};
 ghost use Rattle.des_parts.specs.Worlds.{IsWorldOf, StandAfter};
 ghost use Rattle.des_parts.specs.Delivery.{CanDeliver, HasDelivered, IsAhead, LeastIs, HasOpened, OpensAt, horizon_of};
 
-use des_event::{Event, Memory, RunError};
+use des_event::{Brief, Event, Memory, RunError};
 use des_machine::{AuditClock, Machine};
 use des_queue::Pending;
 use des_window::{Division, Opening, horizon_from, sooner};
@@ -18,7 +18,7 @@ use std::alloc::Global;
 /// others. The due ones are taken out when the window is opened, since its horizon depends on the
 /// world alone. A part reads them by reference while it runs.
 #[derive(Drop)]
-pub struct PartEvents<B> {
+pub struct PartEvents<B: Brief> {
     pub due: Vec<Event<B>>,
     pub later: Pending<B>,
 }
@@ -27,7 +27,7 @@ pub struct PartEvents<B> {
 /// events of the run, by part. It borrows nothing. The fields are public so that contracts can name
 /// them: callers should not read them.
 #[derive(Drop)]
-pub struct World<T, B> {
+pub struct World<T, B: Brief> {
     /// How many events were taken.
     pub count: u64,
     pub division: Division,
@@ -39,7 +39,7 @@ pub struct World<T, B> {
     pub opening: Option<Opening>,
 }
 
-impl<B: Drop> PartEvents<B> {
+impl<B: Brief + Drop> PartEvents<B> {
     /// Drops the due events, and takes the later ones that are before a time in their place.
     fn take_due(&mut self, horizon: u64) -> Result<(), Memory>
         ensures all { OnOk result (self.new.due.items ++ self.new.later ≡ self.old.later) }
@@ -61,7 +61,7 @@ impl<B: Drop> PartEvents<B> {
 }
 
 /// `parts` parts without events.
-pub fn empty_parts<B: Drop>(alloc: Global, parts: u32) -> Result<Vec<PartEvents<B>>, Memory>
+pub fn empty_parts<B: Brief + Drop>(alloc: Global, parts: u32) -> Result<Vec<PartEvents<B>>, Memory>
     ensures long { IfOk result (λ list. length list.items ≡ parts) }
     ensures none { IfOk result (λ list. AllByRecursion (λ e. e.later ≡ []) list.items) }
 {
@@ -75,7 +75,7 @@ pub fn empty_parts<B: Drop>(alloc: Global, parts: u32) -> Result<Vec<PartEvents<
     Ok(list)
 }
 
-impl<T: Drop, B: Drop> World<T, B> {
+impl<T: Drop, B: Brief + Drop> World<T, B> {
     /// The start of a run, by a division of the machine's nodes.
     ///
     /// # Errors
@@ -160,7 +160,7 @@ pub fn fill_parts<M: Machine>(
 }
 
 /// Adds events to the later ones of the parts of their targets.
-pub(crate) fn deliver<B: Drop>(
+pub(crate) fn deliver<B: Brief + Drop>(
     parts: &mut Vec<PartEvents<B>>,
     division: &Division,
     mail: Vec<Event<B>>,
@@ -183,7 +183,7 @@ pub(crate) fn deliver<B: Drop>(
 }
 
 /// The time of the first of all later events.
-fn first_time<B: Drop>(parts: &[PartEvents<B>]) -> Option<u64>
+fn first_time<B: Brief + Drop>(parts: &[PartEvents<B>]) -> Option<u64>
     ensures { LeastIs parts.now (length parts.now) result }
 {
     let mut least = None;

@@ -1,7 +1,7 @@
 //! What a protocol is.
 use crate::numbered::Counted;
 use crate::teller::Teller;
-use des_event::Memory;
+use des_event::{Brief, Memory};
 use des_machine::States;
 use std::alloc::Global;
 
@@ -19,7 +19,7 @@ pub trait Protocol {
     type State: Drop;
 
     /// What a node is told.
-    type Body: Drop;
+    type Body: Brief + Drop;
 
     /// What a telling or an audit leaves in the trace.
     type Piece: Drop;

@@ -42,7 +42,7 @@ use Rattle.std.specs.declared.cmp.Ordering.{Ordering}
 use Rattle.std.specs.declared.cmp.Ordering.TheVariants.{Less, Equal, Greater}
 use Rattle.std.proofs.lemmas.List.Sorted.{IsPermutation-append_left, IsPermutation-map, IsPermutation-to_front, IsPermutation-sym, IsPermutation-trans}
 use Rattle.std.proofs.lemmas.List.{map-append}
-use Rattle.slab.specs.Slab.{Slab, get, Updates}
+use Rattle.des_queue.specs.Shelf.{ChangesAt, Shelved, get}
 use Rattle.des_event.specs.declared.event.Event.{Event}
 use Rattle.des_event.specs.declared.key.Key.{Key}
 use Rattle.des_event.specs.Keys.{IsBefore, key_cmp}
@@ -59,7 +59,6 @@ use Rattle.des_queue.proofs.Due.{last_greatest, sorted_front}
 use Rattle.des_queue.proofs.Orders.{all_both, in_left, in_right, put_behind}
 use Rattle.des_queue.proofs.Placed.{PlaceList, Placing, all_set, fit_at, joined, joined_same, placed_same}
 use Rattle.des_queue.proofs.Places.{
-  changes_by,
   event_in,
   event_of,
   first_out,
@@ -112,41 +111,38 @@ module _ {B : Type 0} where
       subst (λ l. IsPermutation (map (entry_at s) ps) (l ++ map (entry_at s) rest)) (sym is)
       (subst (λ l. IsPermutation (map (entry_at s) ps) l) (map-append (entry_at s) qs rest) (IsPermutation-map (entry_at s) ps (qs ++ rest) p))
 
-  abbrev at_slots : List (Option (Event B)) → Events B
-  at_slots os p = slice_index_or os p None
-
   -- where the same events are at the same places, and in the lists
-  pub same_places : (d : Days B) (r : Slab (Event B)) (room : ℕ) → r.slots ≡ d.events.slots → AreDays d room → AreDays (record d { events = r }) room
-  same_places d r room slots days = record {
-    placed = subst (λ os. AllPlaced (IsListed (at_slots os) d.today d.latest) 0 d.lists.items) (sym slots) days.placed;
+  pub same_places : (d : Days B) (r : Shelved B) (room : ℕ) → get r ≡ get d.events → AreDays d room → AreDays (record d { events = r }) room
+  same_places d r room same_events days = record {
+    placed = subst (λ (s : Events B). AllPlaced (IsListed s d.today d.latest) 0 d.lists.items) (sym same_events) days.placed;
     fit = days.fit;
   }
 
   -- a list has more room, and the same places
-  pub kept_list : (d : Days B) (r : Slab (Event B)) (at room : ℕ) (v l : PlaceList) → AreDays d room → r.slots ≡ d.events.slots → at < length d.lists.items
+  pub kept_list : (d : Days B) (r : Shelved B) (at room : ℕ) (v l : PlaceList) → AreDays d room → get r ≡ get d.events → at < length d.lists.items
       → v ≡ slice_index_or d.lists.items at v → l.items ≡ v.items
       → let new : Days B = record d { lists = with_item d.lists at l; events = r } in AreDays new room × HasSame d new
-  kept_list d r at room v l days slots lt read items =
+  kept_list d r at room v l days same_events lt read items =
       let same : l.items ≡ (slice_index_or d.lists.items at v).items = ◌∙◌ {A = List ℕ} items (ap (λ (m : PlaceList). m.items) read) in (
         record {
-          placed = placed_same (IsListed (get r) d.today d.latest) at d.lists.items v l lt same (same_places d r room slots days).placed;
+          placed = placed_same (IsListed (get r) d.today d.latest) at d.lists.items v l lt same (same_places d r room same_events days).placed;
           fit = all_set (λ (m : PlaceList). length m.items ≤ room) d.lists.items at l days.fit
               (subst (λ (ps : List ℕ). length ps ≤ room) (sym items) (fit_at room at d.lists.items v v lt read days.fit));
         },
-        record { today = refl; slots = slots; places = joined_same d.lists.items at v l same },
+        record { today = refl; events = same_events; places = joined_same d.lists.items at v l same },
       )
 
   pub same_orderly : (due new : Vec Entry) (c d : Days B) → AreOrderly due c → new.items ≡ due.items → HasSame c d → AreDays d (vec_capacity new)
       → AreOrderly new d × (events_of new.items d ≡ events_of due.items c)
   same_orderly due new c d is entries same days =
-      let all : new.items ++ entries_in d ≡ due.items ++ entries_in c = λ i. entries i ++ map (entry_at (at_slots (same.slots i))) (same.places i) in (
+      let all : new.items ++ entries_in d ≡ due.items ++ entries_in c = λ i. entries i ++ map (entry_at (same.events i)) (same.places i) in (
         record {
-          held = subst (λ (x : List (Option (Event B)) × List Entry). Held (at_slots x.0) x.1) (λ i. (sym same.slots i, sym all i)) is.held;
+          held = subst (λ (x : Events B × List Entry). Held x.0 x.1) (λ i. (sym same.events i, sym all i)) is.held;
           days = days;
           opened = subst (λ (x : ℕ × List Entry). AllByRecursion (λ w. day_of (waiting_key w) ≤ x.0) x.1) (λ i. (sym same.today i, sym entries i)) is.opened;
           sorted = subst (IsSorted waiting_cmp) (sym entries) is.sorted;
         },
-        λ i. in_key_order (events_at (at_slots (same.slots i)) (all i)),
+        λ i. in_key_order (events_at (same.events i) (all i)),
       )
 
   -- an event was put
@@ -155,7 +151,7 @@ module _ {B : Type 0} where
       → AreOrderly due d × (events_of due.items d ≡ put_in_order event_key e es)
   put_orderly due c d e es is shown new put days =
       let s = get c.events in let t = get d.events in let w = entry_at t put.place in
-      let change = changes_by c.events d.events put.place (Some e) put.updates in
+      let change = put.changed in
       let kept : (p : ℕ) → IsIn p (places_in c) → t p ≡ s p = λ p h. change.others p (λ q.
       subst (λ o. IsSomeAnd o (λ (x : Event B). x.key ≡ waiting_key (entry_at s p))) (ap s q ∙ put.free)
       (all_in (IsPlaced s) (due.items ++ entries_in c) is.held.placed (entry_at s p)
@@ -249,12 +245,11 @@ module _ {B : Type 0} where
       }
 
   -- an event is removed that no entry has
-  pub freed_orderly : (due : Vec Entry) (d : Days B) (t : Slab (Event B)) (p : ℕ) (e : Event B) → AreOrderly due d → get d.events p ≡ Some e
-      → IsNewKey event_key e.key (events_of due.items d) → Updates d.events t p None
+  pub freed_orderly : (due : Vec Entry) (d : Days B) (t : Shelved B) (p : ℕ) (e : Event B) → AreOrderly due d → get d.events p ≡ Some e
+      → IsNewKey event_key e.key (events_of due.items d) → ChangesAt (get d.events) (get t) p None
       → let new : Days B = record d { events = t } in AreOrderly due new × (events_of due.items new ≡ events_of due.items d)
-  freed_orderly due d t p e is there other updates =
+  freed_orderly due d t p e is there other change =
       let s = get d.events in let all = due.items ++ entries_in d in
-      let change = changes_by d.events t p None updates in
       let kept : (v : Entry) → IsIn v all → get t v.place ≡ s v.place = λ v h. change.others v.place (λ q.
       all_in (λ (x : Event B). event_key x ≢ e.key) (events_of due.items d) other e
       (of_order_in (events_at s all) e (event_in s all v e h (ap s q ∙ there))) refl) in
@@ -284,14 +279,14 @@ module _ {B : Type 0} where
       let p : IsPermutation (due.items ++ entries_in c) (new.items ++ rest) = subst (λ l. IsPermutation (l ++ entries_in c) (new.items ++ rest)) (sym none)
       (IsPermutation-trans (entries_in c) (mid.items ++ rest) (new.items ++ rest) moved (IsPermutation-append_left rest mid.items new.items sorted)) in (
         record {
-          held = subst (λ (x : Slab (Event B)). Held (get x) (new.items ++ rest)) (sym events) (held_permuted s _ (new.items ++ rest) p is.held);
+          held = subst (λ (x : Shelved B). Held (get x) (new.items ++ rest)) (sym events) (held_permuted s _ (new.items ++ rest) p is.held);
           days = subst (λ r. AreDays d r) (sym room) days;
           opened = all_from (λ w. day_of (waiting_key w) ≤ d.today) new.items (λ z h.
               all_in (λ w. day_of (waiting_key w) ≤ d.today) mid.items opened z
               (permuted_in new.items mid.items (IsPermutation-sym mid.items new.items sorted) z h));
           sorted = up;
         },
-        ap (λ (x : Slab (Event B)). in_key_order (events_at (get x) (new.items ++ rest))) events ∙ sym (order_permuted s _ (new.items ++ rest) p is.held),
+        ap (λ (x : Shelved B). in_key_order (events_at (get x) (new.items ++ rest))) events ∙ sym (order_permuted s _ (new.items ++ rest) p is.held),
       )
 
   -- without entries there are no events

@@ -34,7 +34,7 @@ use Rattle.std.proofs.lemmas.Cmp.{back_total, nat_cmp_total, on_total, then_tota
 use Rattle.std.proofs.lemmas.List.Elements.{recursion_from_All}
 use Rattle.std.proofs.lemmas.List.MinMax.{ranks_by}
 use Rattle.std.proofs.lemmas.List.Sorted.{sorted_far, IsPermutation-append_comm}
-use Rattle.slab.specs.Slab.{Slab, get, ContainsKey}
+use Rattle.des_queue.specs.Shelf.{Shelved, get, ContainsPlace}
 use Rattle.des_event.specs.declared.event.Event.{Event}
 use Rattle.des_event.specs.declared.key.Key.{Key}
 use Rattle.des_event.specs.Keys.{IsBefore}
@@ -153,5 +153,5 @@ module _ {B : Type 0} where
   last_placed : (s : Events B) (ws : List Entry) (w : Entry) → Due s (ws ++ w ∷ []) → IsPlaced s w
   last_placed s ws w due = (held_permuted s (ws ++ w ∷ []) (w ∷ ws) (IsPermutation-append_comm ws (w ∷ [])) due.held).placed.0
 
-  pub last_some : (s : Slab (Event B)) (ws : List Entry) (w : Entry) → Due (get s) (ws ++ w ∷ []) → ContainsKey s w.place
+  pub last_some : (s : Shelved B) (ws : List Entry) (w : Entry) → Due (get s) (ws ++ w ∷ []) → ContainsPlace s w.place
   last_some s ws w due = let own = event_of (get s) w (last_placed (get s) ws w due) in subst IsSome (sym own.1) refl

@@ -48,7 +48,7 @@ use Rattle.des_event.specs.declared.event.Event.{Event}
 use Rattle.des_event.proofs.KeyLists.{all_in, all_from}
 use Rattle.des_queue.specs.Days.{AllPlaced, IsInPlace, IsListed, day_of, list_count}
 use Rattle.des_queue.specs.Places.{Events, entry_at, key_there, waiting_key}
-use Rattle.des_queue.proofs.Places.{ChangesAt}
+use Rattle.des_queue.specs.Shelf.{ChangesAt}
 
 abbrev pub PlaceList : Type 0
 PlaceList = Vec ℕ

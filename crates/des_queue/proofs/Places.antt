@@ -39,7 +39,7 @@ use Rattle.std.specs.declared.cmp.Ordering.{Ordering}
 use Rattle.std.specs.declared.cmp.Ordering.TheVariants.{Less, Equal, Greater}
 use Rattle.std.proofs.lemmas.Map.Keys.{IsDistinct-IsPermutation, IsDistinct-head, IsDistinct-tail, IsDistinct-cons}
 use Rattle.std.proofs.lemmas.List.Sorted.{Contains-permutation, IsPermutation-refl, IsPermutation-sym, IsPermutation-map}
-use Rattle.slab.specs.Slab.{Slab, get, slab_len, Updates}
+use Rattle.des_queue.specs.Shelf.{ChangesAt, Shelved, get, shelf_len}
 use Rattle.des_event.specs.declared.event.Event.{Event}
 use Rattle.des_event.specs.declared.key.Key.{Key}
 use Rattle.des_event.specs.Keys.{IsBefore, is_before, is_same_key, key_cmp}
@@ -219,14 +219,6 @@ module _ {B : Type 0} where
     distinct = held.distinct;
   }
 
-  -- one place changes, to this
-  pub record ChangesAt (s t : Events B) (place : ℕ) (new : Option (Event B)) : Type 0 where
-    pub changed : t place ≡ new
-    pub others : (other : ℕ) → other ≢ place → t other ≡ s other
-
-  pub changes_by : (s t : Slab (Event B)) (place : ℕ) (new : Option (Event B)) → Updates s t place new → ChangesAt (get s) (get t) place new
-  changes_by s t place new u = record { changed = u.changed; others = u.others }
-
   -- once the event of an entry is taken, the others' places have what they had
   others_stay : (s t : Events B) (ws rest : List Entry) (w : Entry) (e : Event B) → Held s ws → IsPermutation ws (w ∷ rest) → s w.place ≡ Some e
       → ChangesAt s t w.place None → (v : Entry) → IsIn v rest → t v.place ≡ s v.place
@@ -265,7 +257,7 @@ module _ {B : Type 0} where
   pub held_by : (p : Inside B) → IsPlacedHeap p → Held (get p.events) (heap_items p.heap)
   held_by p is = record { placed = is.placed; distinct = is.distinct }
 
-  pub placed_by : (p : Inside B) → IsHeap waiting_cmp (heap_items p.heap) → Held (get p.events) (heap_items p.heap) → slab_len p.events ≡ heap_len p.heap
+  pub placed_by : (p : Inside B) → IsHeap waiting_cmp (heap_items p.heap) → Held (get p.events) (heap_items p.heap) → shelf_len p.events ≡ heap_len p.heap
       → IsPlacedHeap p
   placed_by p heap held counted = record {
     ordered = heap;
@@ -279,10 +271,10 @@ module _ {B : Type 0} where
   held_none s = record { placed = tt; distinct = tt }
 
   -- after room was made
-  pub kept_by : (p : Inside B) (s : Slab (Event B)) (ws : List Entry) → IsPlacedHeap p → ws ≡ heap_items p.heap → s.slots ≡ p.events.slots
+  pub kept_by : (p : Inside B) (s : Shelved B) (ws : List Entry) → IsPlacedHeap p → ws ≡ heap_items p.heap → get s ≡ get p.events
       → Held (get s) ws × (in_key_order (events_at (get s) ws) ≡ heap_events p)
   kept_by p s ws is items slots =
-      let same : (w : Entry) → IsIn w ws → get s w.place ≡ get p.events w.place = λ w h. ap (λ l. slice_index_or l w.place None) slots in
+      let same : (w : Entry) → IsIn w ws → get s w.place ≡ get p.events w.place = λ w h. ap (λ (f : Events B). f w.place) slots in
       let held : Held (get p.events) ws = subst (Held (get p.events)) (sym items) (held_by p is) in (
         held_stays (get p.events) (get s) ws same held,
         ap in_key_order (stays (get p.events) (get s) ws same)

@@ -7,7 +7,8 @@ use Rattle.des_queue.specs.Places.{Held, Entry, waiting_cmp, events_at, in_key_o
 use Rattle.des_queue.specs.Queue.{queue}
 use Rattle.des_queue.specs.Ticketed.{IsTicketedHeap, queue_of}
 use Rattle.des_queue.specs.declared.window_queue.WindowQueue.TheInside.{Inside}
-use Rattle.des_queue.proofs.Places.{ChangesAt, event_of, first_out, held_permuted}
+use Rattle.des_queue.specs.Shelf.{ChangesAt}
+use Rattle.des_queue.proofs.Places.{event_of, first_out, held_permuted}
 
 module _ {B : Type 0} where
   past_end : (rs : List (Event B)) → slice_get rs (length rs) ≡ None

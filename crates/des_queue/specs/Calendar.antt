@@ -3,7 +3,7 @@ use Rattle.std.specs.Prelude.{◌≡◌, List, [], ◌++◌, map, vec_capacity}
 use Rattle.std.specs.List.{IsDistinct}
 use Rattle.std.specs.List.Sorted.{IsSorted}
 use Rattle.std.specs.Global.{Vec}
-use Rattle.slab.specs.Slab.{get}
+use Rattle.des_queue.specs.Shelf.{get}
 use Rattle.des_event.specs.declared.event.Event.{Event}
 use Rattle.des_event.specs.Keys.{is_same_key}
 use Rattle.des_queue.specs.Days.{AreDays, HaveNone, IsOpened, entries_in}

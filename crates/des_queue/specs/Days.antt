@@ -1,9 +1,9 @@
 -- Events by day.
-use Rattle.std.specs.Prelude.{◌≡◌, ℕ, ◌+◌, ◌/◌, ◌%◌, ◌^◌, ◌<◌, ◌≤◌, List, [], ◌∷◌, ⊤, map, length, slice_index_or, vec_len, vec_capacity, Some, None, IsSomeAnd}
+use Rattle.std.specs.Prelude.{◌≡◌, ℕ, ◌+◌, ◌/◌, ◌%◌, ◌<◌, ◌≤◌, List, [], ◌∷◌, ⊤, map, length, slice_index_or, vec_len, vec_capacity, Some, None, IsSomeAnd, true}
 use Rattle.std.specs.List.{AllByRecursion, flat_map}
 use Rattle.std.specs.List.Sorted.{IsPermutation}
 use Rattle.std.specs.Global.{Vec}
-use Rattle.slab.specs.Slab.{HasRoomFor, get, Updates}
+use Rattle.des_queue.specs.Shelf.{ChangesAt, get}
 use Rattle.des_event.specs.declared.event.Event.{Event}
 use Rattle.des_event.specs.declared.key.Key.{Key}
 use Rattle.des_queue.specs.Places.{Events, Entry, entry_at, waiting_key}
@@ -59,7 +59,7 @@ module _ {B : Type 0} where
   -- the same events are at the same places, and in the lists
   pub record HasSame (old new : Days B) : Type 0 where
     pub today : new.today ≡ old.today
-    pub slots : new.events.slots ≡ old.events.slots
+    pub events : get new.events ≡ get old.events
     pub places : places_in new ≡ places_in old
 
   -- there is room for an event of this time at a place below 2 ^ 32, and for that place in the list at the index
@@ -70,13 +70,12 @@ module _ {B : Type 0} where
     pub listed : at < length d.lists.items
     pub fit : (l : Vec ℕ) → length (slice_index_or d.lists.items at l).items < room
     pub free : (l : Vec ℕ) → vec_len (slice_index_or d.lists.items at l) < vec_capacity (slice_index_or d.lists.items at l)
-    pub vacant : HasRoomFor d.events 1
-    pub small : d.events.capacity ≤ 2 ^ 32
+    pub vacant : d.events.ready ≡ true
 
   -- the event is at a place that was free, and in a list
   pub record HasTaken (old : Days B) (e : Event B) (new : Days B) : Type 0 where
     pub place : ℕ
     pub today : new.today ≡ old.today
     pub free : get old.events place ≡ None
-    pub updates : Updates old.events new.events place (Some e)
+    pub changed : ChangesAt (get old.events) (get new.events) place (Some e)
     pub places : IsPermutation (place ∷ places_in old) (places_in new)

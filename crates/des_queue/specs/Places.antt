@@ -4,7 +4,7 @@ use Rattle.std.specs.List.{AllByRecursion, IsDistinct, filter_map}
 use Rattle.std.specs.BinaryHeap.{IsHeap, heap_items, heap_len}
 use Rattle.std.specs.Ordering.{nat_cmp, ordering_then}
 use Rattle.std.specs.declared.cmp.Ordering.{Ordering}
-use Rattle.slab.specs.Slab.{get, slab_len}
+use Rattle.des_queue.specs.Shelf.{get, shelf_len}
 use Rattle.des_event.specs.declared.event.Event.{Event}
 use Rattle.des_event.specs.declared.key.Key.{Key}
 use Rattle.des_event.specs.Keys.{is_same_key, key_cmp}
@@ -70,4 +70,4 @@ module _ {B : Type 0} where
     pub ordered : IsHeap waiting_cmp (heap_items p.heap)
     pub placed : AllByRecursion (IsPlaced (get p.events)) (heap_items p.heap)
     pub distinct : IsDistinct is_same_key (map waiting_key (heap_items p.heap))
-    pub counted : slab_len p.events ≡ heap_len p.heap
+    pub counted : shelf_len p.events ≡ heap_len p.heap

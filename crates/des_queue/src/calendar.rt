@@ -8,7 +8,7 @@ ghost use Rattle.des_queue.specs.EventKey.{event_key};
 
 use crate::days::Days;
 use crate::waiting::{Waiting, copies_before};
-use des_event::{Copied, Event, Key, Memory};
+use des_event::{Brief, Copied, Event, Key, Memory};
 use std::alloc::Global;
 use std::cmp::Reverse;
 use std::marker::Model;
@@ -30,14 +30,14 @@ pub const GROUP: usize = 4;
 /// left last, so an event is mostly written to memory that was used just before. A list was last
 /// used a second ago, so events in lists would mostly be written to memory that no cache has.
 #[derive(Drop)]
-pub struct Calendar<B> {
+pub struct Calendar<B: Brief> {
     /// The entries of the events of the opened days, the first event last.
     due: Vec<Waiting<usize>>,
     days: Days<B>,
     alloc: Global,
 }
 
-impl<B> Model for Calendar<B> {
+impl<B: Brief> Model for Calendar<B> {
     ghost use Rattle.std.specs.Prelude.{List};
     ghost use Rattle.des_event.specs.declared.event.Event.{Event as AnEvent};
     ghost use Rattle.des_queue.specs.Calendar.{calendar_of, IsCalendar};
@@ -49,7 +49,7 @@ impl<B> Model for Calendar<B> {
     ghost invariant = { λ c. IsCalendar c };
 }
 
-impl<B: Drop> Calendar<B> {
+impl<B: Brief + Drop> Calendar<B> {
     /// A calendar without events. It takes no memory.
     pub fn new(alloc: Global) -> Calendar<B>
         ensures { result ≡ [] }
@@ -104,18 +104,14 @@ impl<B: Drop> Calendar<B> {
     #[inline(always)]
     pub fn target_ahead(&self, later: usize) -> Option<u32> {
         let place = self.place_ahead(later)?;
-        let event = self.days.events.get(place)?;
-        Some(event.target)
+        self.days.events.target(place)
     }
 
-    /// Reads something of that event, in its first and in its last cache line.
+    /// Reads something of that event.
     #[inline(always)]
     pub fn fetch_event(&self, later: usize) -> Option<u64> {
         let place = self.place_ahead(later)?;
-        let event = self.days.events.get(place)?;
-        // The next place mostly begins in the cache line in which this one ends.
-        let has_next = self.days.events.contains(place.wrapping_add(1));
-        Some(u64::from(event.target).wrapping_add(u64::from(has_next)))
+        self.days.events.fetch(place)
     }
 
     /// The place of that event.
@@ -148,7 +144,7 @@ impl<B: Drop> Calendar<B> {
     }
 }
 
-impl<B: Copied + Drop> Calendar<B> {
+impl<B: Brief + Copied + Drop> Calendar<B> {
     /// Copies of the events before a time in microseconds.
     pub fn up_to(&self, horizon: u64) -> Result<Vec<Event<B>>, Memory>
         ensures { IfOk result (λ copies. copies.items ≡ before event_key horizon self.now) }
@@ -165,7 +161,7 @@ impl<B: Copied + Drop> Calendar<B> {
 /// The index of the list that takes an event of this time. None if few events are pending, `others`
 /// besides those here, or if `Days` has no list for it.
 #[inline(always)]
-fn list_for<B: Drop>(
+fn list_for<B: Brief + Drop>(
     due: &mut Vec<Waiting<usize>>,
     days: &mut Days<B>,
     time: u64,
@@ -187,7 +183,12 @@ fn list_for<B: Drop>(
 
 /// Adds an event to the list that takes it.
 #[inline(always)]
-fn put<B: Drop>(due: &mut Vec<Waiting<usize>>, days: &mut Days<B>, event: Event<B>, at: usize)
+fn put<B: Brief + Drop>(
+    due: &mut Vec<Waiting<usize>>,
+    days: &mut Days<B>,
+    event: Event<B>,
+    at: usize,
+)
     requires orderly { AreOrderly due.old days.old }
     requires takes { MayTake days.old event.key.time at (vec_capacity due.old) }
     requires new { IsNewKey event_key event.key (events_of due.old.items days.old) }
@@ -201,7 +202,7 @@ fn put<B: Drop>(due: &mut Vec<Waiting<usize>>, days: &mut Days<B>, event: Event<
 
 /// Fills the list of due entries, if it is empty, with those of the next day that has any.
 #[inline(always)]
-fn refill<B: Drop>(due: &mut Vec<Waiting<usize>>, days: &mut Days<B>)
+fn refill<B: Brief + Drop>(due: &mut Vec<Waiting<usize>>, days: &mut Days<B>)
     requires { AreOrderly due.old days.old }
     ensures orderly { AreOrderly due.new days.new }
     ensures same { events_of due.new.items days.new ≡ events_of due.old.items days.old }
@@ -217,7 +218,7 @@ fn refill<B: Drop>(due: &mut Vec<Waiting<usize>>, days: &mut Days<B>)
 
 /// Fills the empty list of due entries with those of the next day that has any.
 #[inline(never)]
-fn fill<B: Drop>(due: &mut Vec<Waiting<usize>>, days: &mut Days<B>)
+fn fill<B: Brief + Drop>(due: &mut Vec<Waiting<usize>>, days: &mut Days<B>)
     requires orderly { AreOrderly due.old days.old }
     requires empty { due.old.items ≡ [] }
     ensures orderly { AreOrderly due.new days.new }
@@ -230,7 +231,7 @@ fn fill<B: Drop>(due: &mut Vec<Waiting<usize>>, days: &mut Days<B>)
 }
 
 /// Sorts events by their keys.
-pub fn sort_up<B: Drop>(events: &mut Vec<Event<B>>)
+pub fn sort_up<B: Brief + Drop>(events: &mut Vec<Event<B>>)
     requires { AreDistinct events.old.items }
     ensures same { IsPermutation events.old.items events.new.items }
     ensures up { InKeyOrder event_key events.new.items }
@@ -240,7 +241,7 @@ pub fn sort_up<B: Drop>(events: &mut Vec<Event<B>>)
 }
 
 /// Sorts events by their keys, the first event last.
-pub fn sort_down<B: Drop>(events: &mut Vec<Event<B>>)
+pub fn sort_down<B: Brief + Drop>(events: &mut Vec<Event<B>>)
     requires { AreDistinct events.old.items }
     ensures same { IsPermutation events.old.items events.new.items }
     ensures down { InKeyOrder event_key (reverse events.new.items) }

@@ -2,14 +2,13 @@
 ghost use Rattle.std.specs.Prelude.{◌≡◌, ℕ, ◌+◌, ◌<◌, ◌≤◌, [], ◌++◌, map, vec_len, vec_capacity, IfSome, OnOk};
 ghost use Rattle.std.specs.List.{All, AllByRecursion};
 ghost use Rattle.std.specs.List.Sorted.{IsPermutation};
-ghost use Rattle.slab.specs.Slab.{ContainsKey, get};
+ghost use Rattle.des_queue.specs.Shelf.{ContainsPlace, get};
 ghost use Rattle.des_queue.specs.Days.{AreDays, HasSame, HasTaken, HaveNone, IsOpened, MayTake, entries_in};
 ghost use Rattle.des_queue.specs.Places.{entry_at};
 
-use crate::room::make_room;
+use crate::shelf::Shelf;
 use crate::waiting::Waiting;
-use des_event::{Event, Memory};
-use slab::Slab;
+use des_event::{Brief, Event, Memory};
 use std::alloc::Global;
 use std::cmp::Reverse;
 
@@ -23,16 +22,13 @@ const DAY: u64 = 1024;
 /// The number of events that one day may have.
 const MOST: usize = 8192;
 
-/// The most places of events: each is below 2^32.
-const MOST_PLACES: usize = 4_294_967_296;
-
 /// The most room that a list keeps when it is emptied.
 const KEPT: usize = 64;
 
 /// Events, and those of later days by day. A list has the places of the events of one day, and only
 /// days after the last opened one have any.
 #[derive(Drop)]
-pub struct Days<B> {
+pub struct Days<B: Brief> {
     /// The places of the events of day `d` are in list `d % DAYS`. They are stored as u32, which
     /// takes half of the memory.
     pub lists: Vec<Vec<u32>>,
@@ -41,10 +37,10 @@ pub struct Days<B> {
     /// No event in the lists has a later day.
     pub latest: u64,
     /// The events of the lists and of the opened days.
-    pub events: Slab<Event<B>>,
+    pub events: Shelf<B>,
 }
 
-impl<B: Drop> Days<B> {
+impl<B: Brief + Drop> Days<B> {
     /// Days without events. They take no memory.
     pub fn new(alloc: Global) -> Days<B>
         ensures days { (room : ℕ) → AreDays result room }
@@ -54,7 +50,7 @@ impl<B: Drop> Days<B> {
             lists: Vec::new(alloc),
             today: 0,
             latest: 0,
-            events: Slab::new(alloc),
+            events: Shelf::new(alloc),
         }
     }
 
@@ -74,8 +70,8 @@ impl<B: Drop> Days<B> {
     }
 
     /// The index of the list that takes an event of this time, once there is room for it. None if the
-    /// day of the time has no list or is too far ahead, if the list has no room, if there are 2^32
-    /// places or more, or if an allocation fails.
+    /// day of the time has no list or is too far ahead, if the list has no room, if an event
+    /// has no place below 2^32, or if an allocation fails.
     #[inline(always)]
     pub fn list_for(&mut self, time: u64, room: usize) -> Option<usize>
         requires { AreDays self.old room }
@@ -91,10 +87,7 @@ impl<B: Drop> Days<B> {
         if self.lists[at].len() >= room {
             return None;
         }
-        if let Err(_refused) = make_room(&mut self.events) {
-            return None;
-        }
-        if self.events.capacity() > MOST_PLACES {
+        if let Err(_refused) = self.events.make_room() {
             return None;
         }
         if let Err(_refused) = self.lists[at].reserve(1) {
@@ -104,6 +97,7 @@ impl<B: Drop> Days<B> {
     }
 
     /// Adds an event to the list that takes it.
+    #[inline(always)]
     pub fn put(&mut self, event: Event<B>, at: usize)
         requires { (room : ℕ) × MayTake self.old event.key.time at room }
         ensures days { (room : ℕ) → AreDays self.old room → MayTake self.old event.key.time at room → AreDays self.new room }
@@ -201,19 +195,19 @@ fn empty_list(places: &mut Vec<u32>)
 }
 
 /// Adds the entries of the events at some places.
-fn add_entries<B: Drop>(
-    events: &Slab<Event<B>>,
+fn add_entries<B: Brief + Drop>(
+    events: &Shelf<B>,
     places: &Vec<u32>,
     entries: &mut Vec<Waiting<usize>>,
 )
-    requires there { All (ContainsKey events.now) places.now.items }
+    requires there { All (ContainsPlace events.now) places.now.items }
     requires room { vec_len entries.old + vec_len places.now ≤ vec_capacity entries.old }
     ensures added { entries.new.items ≡ entries.old.items ++ map (entry_at (get events.now)) places.now.items }
     ensures capacity { vec_capacity entries.old ≤ vec_capacity entries.new }
 {
     for place in places {
         let place = *place as usize;
-        let key = Reverse(events[place].key);
+        let key = Reverse(events.key(place));
         match entries.push(Waiting { key, place }) {
             Ok(()) => {}
             Err(_) => unreachable!(),

@@ -3,10 +3,9 @@ ghost use Rattle.std.specs.Prelude.{◌≡◌, [], ◌∷◌, slice_get, option_
 ghost use Rattle.des_event.specs.KeyOrder.{InKeyOrder, IsNewKey, put_in_order, before};
 ghost use Rattle.des_queue.specs.EventKey.{event_key};
 
-use crate::room::make_room;
+use crate::shelf::Shelf;
 use crate::waiting::{Waiting, copies_before};
-use des_event::{Copied, Event, Key, Memory};
-use slab::Slab;
+use des_event::{Brief, Copied, Event, Key, Memory};
 use std::alloc::Global;
 use std::cmp::Reverse;
 use std::collections::BinaryHeap;
@@ -14,14 +13,14 @@ use std::marker::Model;
 
 /// Events in a heap, which contracts see as their list in the order of their keys.
 #[derive(Drop)]
-pub struct EventHeap<B> {
+pub struct EventHeap<B: Brief> {
     // Keys in a heap and events in a slab, so that an insertion moves keys and not events.
     heap: BinaryHeap<Waiting<usize>>,
-    events: Slab<Event<B>>,
+    events: Shelf<B>,
     alloc: Global,
 }
 
-impl<B> Model for EventHeap<B> {
+impl<B: Brief> Model for EventHeap<B> {
     ghost use Rattle.std.specs.Prelude.{List};
     ghost use Rattle.des_event.specs.declared.event.Event.{Event as AnEvent};
     ghost use Rattle.des_queue.specs.Places.{heap_events, IsPlacedHeap};
@@ -33,13 +32,13 @@ impl<B> Model for EventHeap<B> {
     ghost invariant = { λ h. IsPlacedHeap h };
 }
 
-impl<B: Drop> EventHeap<B> {
+impl<B: Brief + Drop> EventHeap<B> {
     pub fn new(alloc: Global) -> EventHeap<B>
         ensures { result ≡ [] }
     {
         EventHeap {
             heap: BinaryHeap::new(alloc),
-            events: Slab::new(alloc),
+            events: Shelf::new(alloc),
             alloc,
         }
     }
@@ -63,7 +62,10 @@ impl<B: Drop> EventHeap<B> {
         ensures ok { OnOk result (self.new ≡ put_in_order event_key event self.old) }
         ensures err { IfErr result (λ back. (back ≡ event) × (self.new ≡ self.old)) }
     {
-        if self.heap.reserve(1).is_err() || make_room(&mut self.events).is_err() {
+        if self.heap.reserve(1).is_err() {
+            return Err(event);
+        }
+        if self.events.make_room().is_err() {
             return Err(event);
         }
         let key = Reverse(event.key);
@@ -92,7 +94,7 @@ impl<B: Drop> EventHeap<B> {
     }
 }
 
-impl<B: Copied + Drop> EventHeap<B> {
+impl<B: Brief + Copied + Drop> EventHeap<B> {
     /// Copies of the events before a time in microseconds.
     pub fn up_to(&self, horizon: u64) -> Result<Vec<Event<B>>, Memory>
         ensures { IfOk result (λ copies. copies.items ≡ before event_key horizon self.now) }

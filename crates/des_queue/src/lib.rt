@@ -5,7 +5,7 @@ mod calendar;
 mod days;
 mod event_heap;
 mod pending;
-mod room;
+mod shelf;
 mod waiting;
 mod window_queue;
 

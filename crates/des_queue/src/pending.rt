@@ -7,12 +7,9 @@ ghost use Rattle.des_queue.specs.EventKey.{event_key};
 
 use crate::calendar::{Calendar, sort_down, sort_up};
 use crate::event_heap::EventHeap;
-use des_event::{Copied, Event, Memory};
+use des_event::{Brief, Copied, Event, Memory, free_spare};
 use std::alloc::Global;
 use std::marker::Model;
-
-/// For how many events more a list that is being emptied may always have room.
-const SPARE: usize = 4096;
 
 /// The events that are still to come, which contracts see as their list in the order of their keys.
 ///
@@ -25,13 +22,13 @@ const SPARE: usize = 4096;
 /// the two first ones. So the calendar may return any event: which ones it takes is a matter of
 /// speed alone, and no contract speaks of it.
 #[derive(Drop)]
-pub struct Pending<B> {
+pub struct Pending<B: Brief> {
     calendar: Calendar<B>,
     /// The events that the calendar did not take.
     rest: EventHeap<B>,
 }
 
-impl<B> Model for Pending<B> {
+impl<B: Brief> Model for Pending<B> {
     ghost use Rattle.std.specs.Prelude.{List};
     ghost use Rattle.des_event.specs.declared.event.Event.{Event as AnEvent};
     ghost use Rattle.des_queue.specs.Pending.{all_pending, ArePending};
@@ -43,7 +40,7 @@ impl<B> Model for Pending<B> {
     ghost invariant = { λ p. ArePending p };
 }
 
-impl<B: Drop> Pending<B> {
+impl<B: Brief + Drop> Pending<B> {
     pub fn new(alloc: Global) -> Pending<B>
         ensures { result ≡ [] }
     {
@@ -215,7 +212,7 @@ impl<B: Drop> Pending<B> {
     }
 }
 
-impl<B: Copied + Drop> Pending<B> {
+impl<B: Brief + Copied + Drop> Pending<B> {
     /// Copies of the events before a time in microseconds.
     pub fn up_to(&self, horizon: u64) -> Result<Vec<Event<B>>, Memory>
         ensures { IfOk result (λ copies. copies.items ≡ before event_key horizon self.now) }
@@ -229,20 +226,12 @@ impl<B: Copied + Drop> Pending<B> {
     }
 }
 
-/// Frees the memory that a list of events does not need, if it is more than an eighth of what it needs.
-/// Otherwise a long list would have all its memory until its last event is taken, beside the places to
-/// which its events go.
-fn free_spare<B>(events: &mut Vec<Event<B>>)
-    ensures { events.new.items ≡ events.old.items }
-{
-    if events.capacity() - events.len() > SPARE + events.len() / 8 {
-        events.shrink_to_fit();
-    }
-}
-
 /// Takes the first event of the rest, and moves a calendar without events on to its day.
 #[inline(never)]
-fn pop_rest<B: Drop>(calendar: &mut Calendar<B>, rest: &mut EventHeap<B>) -> Option<Event<B>>
+fn pop_rest<B: Brief + Drop>(
+    calendar: &mut Calendar<B>,
+    rest: &mut EventHeap<B>,
+) -> Option<Event<B>>
     ensures popped { MatchOption result ((rest.old ≡ []) × (rest.new ≡ [])) (λ first. rest.old ≡ first ∷ rest.new) }
     ensures same { calendar.new ≡ calendar.old }
 {
@@ -253,7 +242,7 @@ fn pop_rest<B: Drop>(calendar: &mut Calendar<B>, rest: &mut EventHeap<B>) -> Opt
 
 /// Adds an event to the rest, or drops it if an allocation fails.
 #[inline(never)]
-fn put_in_rest<B: Drop>(rest: &mut EventHeap<B>, event: Event<B>) -> Result<(), Memory>
+fn put_in_rest<B: Brief + Drop>(rest: &mut EventHeap<B>, event: Event<B>) -> Result<(), Memory>
     requires { IsNewKey event_key event.key rest.old }
     ensures ok { OnOk result (rest.new ≡ put_in_order event_key event rest.old) }
     ensures err { OnErr result (rest.new ≡ rest.old) }

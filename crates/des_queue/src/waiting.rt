@@ -2,13 +2,13 @@
 ghost use Rattle.std.specs.Prelude.{◌≡◌, IfOk};
 ghost use Rattle.std.specs.List.{filter};
 ghost use Rattle.std.specs.List.Sorted.{IsPermutation, IsSorted};
-ghost use Rattle.slab.specs.Slab.{get};
+ghost use Rattle.des_queue.specs.Shelf.{get};
 ghost use Rattle.des_event.specs.KeyOrder.{before};
 ghost use Rattle.des_queue.specs.EventKey.{event_key};
 ghost use Rattle.des_queue.specs.Places.{Held, waiting_cmp, is_due, events_at, in_key_order};
 
-use des_event::{Copied, Event, Key, Memory};
-use slab::Slab;
+use crate::shelf::Shelf;
+use des_event::{Brief, Copied, Event, Key, Memory};
 use std::alloc::Global;
 use std::cmp::Reverse;
 
@@ -21,9 +21,9 @@ pub struct Waiting<P> {
 }
 
 /// Copies of the events before a time in microseconds.
-pub fn copies_before<B: Copied + Drop>(
+pub fn copies_before<B: Brief + Copied + Drop>(
     alloc: Global,
-    events: &Slab<Event<B>>,
+    events: &Shelf<B>,
     entries: &[Waiting<usize>],
     horizon: u64,
 ) -> Result<Vec<Event<B>>, Memory>
@@ -33,7 +33,7 @@ pub fn copies_before<B: Copied + Drop>(
     let mut due = due_before(entries, alloc, horizon)?;
     let mut copies = Vec::new(alloc);
     while let Some(waiting) = due.pop() {
-        copies.push(events[waiting.place].try_clone()?)?;
+        copies.push(events.copy_of(waiting.place)?)?;
     }
     Ok(copies)
 }

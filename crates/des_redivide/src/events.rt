@@ -3,12 +3,15 @@ ghost use Rattle.std.specs.Prelude.{◌≡◌, ◌++◌, IfOk, OnOk};
 ghost use Rattle.std.specs.List.{flat_map};
 ghost use Rattle.des_parts.specs.Worlds.{events_of};
 
-use des_event::{Event, Memory};
+use des_event::{Brief, Event, Memory};
 use des_parts::PartEvents;
 use std::alloc::Global;
 
 /// Moves all events of a part to the end of a list.
-fn move_events<B: Drop>(part: &mut PartEvents<B>, list: &mut Vec<Event<B>>) -> Result<(), Memory>
+fn move_events<B: Brief + Drop>(
+    part: &mut PartEvents<B>,
+    list: &mut Vec<Event<B>>,
+) -> Result<(), Memory>
     ensures { OnOk result (list.new.items ≡ list.old.items ++ events_of part.old) }
 {
     list.append(&mut part.due)?;
@@ -19,7 +22,7 @@ fn move_events<B: Drop>(part: &mut PartEvents<B>, list: &mut Vec<Event<B>>) -> R
 }
 
 /// The events of all parts.
-pub(crate) fn all_events<B: Drop>(
+pub(crate) fn all_events<B: Brief + Drop>(
     alloc: Global,
     parts: Vec<PartEvents<B>>,
 ) -> Result<Vec<Event<B>>, Memory>

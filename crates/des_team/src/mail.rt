@@ -9,7 +9,7 @@ ghost use Rattle.des_team.specs.Mail.{AreEmpty, AreNamed, all_of, lists_of, mail
 ghost use Rattle.des_team.specs.Owned.{AreApart};
 
 use crate::part::Parcel;
-use des_event::{Event, Memory};
+use des_event::{Brief, Event, Memory};
 use des_machine::Machine;
 use des_queue::Pending;
 use std::alloc::Global;
@@ -63,7 +63,7 @@ impl<B> Model for Outbox<B> {
 
 /// Moves the events of the lists that came among the pending ones. The lists keep their memory and
 /// are put among the empty ones, if they are to be kept.
-fn take_lists<B: Drop>(
+fn take_lists<B: Brief + Drop>(
     came: &mut Vec<Vec<Event<B>>>,
     empty: &mut Vec<Vec<Event<B>>>,
     pending: &mut Pending<B>,
@@ -111,6 +111,8 @@ impl<B: Drop> Inbox<B> {
 
     /// Moves the events among the pending ones of a part of so many.
     pub fn empty_into(&mut self, pending: &mut Pending<B>, parts: usize) -> Result<(), Memory>
+    where
+        B: Brief,
         requires { AreApart (pending.old ++ self.old) }
         ensures same { OnOk result ((x : AnEvent B) → Contains pending.new x ↔ Contains (pending.old ++ self.old) x) }
         ensures none_left { OnOk result (self.new ≡ []) }

@@ -5,7 +5,7 @@ ghost use Rattle.phold_rules.specs.Rules.{all_jobs, delay_of, jobs_of, phold, re
 
 use crate::hop::Hop;
 use crate::settings::Settings;
-use des_event::{Event, Key, Memory};
+use des_event::{Brief, Event, Key, Memory, Short};
 use des_stream::Stream;
 use std::alloc::Global;
 
@@ -18,6 +18,19 @@ pub struct Node {
 /// What an event asks of its target: to send the job on.
 #[derive(Clone, Copy, Drop)]
 pub struct Job {}
+
+/// All jobs are alike, so one short form is enough.
+impl Brief for Job {
+    ghost long = { λ _. record {} };
+
+    fn shorten(&self) -> Option<Short> {
+        Some(Short { kind: 0, number: 0 })
+    }
+
+    fn lengthen(_short: Short) -> Job {
+        Job {}
+    }
+}
 
 /// The delay in microseconds of the event of this number that a node makes, and its receiver.
 fn draw(settings: &Settings, node: u32, number: u64) -> (u64, u32)

@@ -4,7 +4,7 @@ ghost use Rattle.rumour_rules.specs.Range.{IsInRange};
 ghost use Rattle.rumour_rules.specs.Rules.{first_telling, outcome_of};
 
 use crate::settings::Settings;
-use des_event::Memory;
+use des_event::{Brief, Memory, Short};
 use des_protocol::Teller;
 use std::alloc::Global;
 
@@ -17,6 +17,19 @@ pub struct Node {
 /// What a node is told.
 #[derive(Clone, Copy, Drop)]
 pub struct Rumour {}
+
+/// All rumours are alike, so one short form is enough.
+impl Brief for Rumour {
+    ghost long = { λ _. record {} };
+
+    fn shorten(&self) -> Option<Short> {
+        Some(Short { kind: 0, number: 0 })
+    }
+
+    fn lengthen(_short: Short) -> Rumour {
+        Rumour {}
+    }
+}
 
 /// What a telling leaves in the trace: a node was told at a time in microseconds, for the first time or
 /// again.

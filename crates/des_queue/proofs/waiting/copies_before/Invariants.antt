@@ -1,5 +1,5 @@
 use Rattle.std.proofs.Common.{◌≡◌, ◌++◌, vec_len}
-use Rattle.slab.specs.Slab.{get}
+use Rattle.des_queue.specs.Shelf.{get}
 use Rattle.des_event.specs.KeyOrder.{before}
 use Rattle.des_queue.specs.EventKey.{event_key}
 use Rattle.des_queue.specs.Places.{events_at, in_key_order}

@@ -1,5 +1,5 @@
 use Rattle.std.proofs.Common.{◌≡◌, ◌∙◌, ◌++◌, ◌-◌, List, Some, option_map, slice_get, sym, ap, subst, length}
-use Rattle.slab.specs.Slab.{get}
+use Rattle.des_queue.specs.Shelf.{get}
 use Rattle.des_event.specs.declared.event.Event.{Event}
 use Rattle.des_queue.specs.Days.{entries_in}
 use Rattle.des_queue.specs.Places.{Entry}

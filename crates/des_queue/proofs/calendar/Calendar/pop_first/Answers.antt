@@ -1,6 +1,6 @@
 use Rattle.std.proofs.Common.{◌≡◌, ◌∙◌, ◌∷◌, [], List, append-nil, arith, refl, sym, ap, subst}
 use Rattle.std.specs.Prelude.{IsSome}
-use Rattle.slab.specs.Slab.{Slab, get}
+use Rattle.des_queue.specs.Shelf.{Shelved, get}
 use Rattle.des_event.specs.declared.event.Event.{Event}
 use Rattle.des_event.specs.KeyOrder.{IsNewKey}
 use Rattle.des_queue.specs.Calendar.{AreOrderly, events_of}
@@ -25,7 +25,7 @@ taken g c =
 same : (g : _) (c : goal.After-remove g) → c.remove.result ≡ (taken g c).event
 same g c =
     let there = (taken g c).there in let value = c.remove.ensures.value in
-    let kept = ap (λ (s : Slab (Event _)). get s c.in_ok-waiting.waiting.place) c.refill.ensures.kept in cc
+    let kept = ap (λ (s : Shelved _). get s c.in_ok-waiting.waiting.place) c.refill.ensures.kept in cc
 
 freed : (g : _) (c : goal.After-remove g) → let due = c.refill.new.due in let d = c.refill.new.days in
     let new : Days _ = record d { events = c.remove.new.self } in
@@ -35,7 +35,7 @@ freed g c =
     freed_orderly due d c.remove.new.self c.in_ok-waiting.waiting.place e c.refill.ensures.orderly c.remove.ensures.value
     (subst (IsNewKey event_key e.key) (sym c.refill.ensures.same)
     (subst (λ (x : Event _). IsNewKey event_key x.key (events_of c.pop.new.self.items c.self.inside.days)) (sym (same g c)) (taken g c).other))
-    c.remove.ensures.updates
+    c.remove.ensures.changed
 
 pub invariant_of-self-2 : goal.invariant_of-self-2
 invariant_of-self-2 g c = record { orderly = (freed g c).0; whole = c.refill.ensures.whole }
@@ -49,7 +49,7 @@ pub remove-requires : goal.remove-requires
 remove-requires g c =
     let q = c.self.inside in let out = c.in_ok-waiting in let place = out.waiting.place in
     let there = (taken_due q.due c.pop.new.self q.days out.waiting c.self.invariant.orderly out.ensures.items out.ensures.capacity).there in
-    subst IsSome (sym (ap (λ (s : Slab (Event _)). get s place) c.refill.ensures.kept ∙ there)) refl
+    subst IsSome (sym (ap (λ (s : Shelved _). get s place) c.refill.ensures.kept ∙ there)) refl
 
 pub returns-in_err-waiting : goal.returns-in_err-waiting
 returns-in_err-waiting g c =

@@ -1,5 +1,5 @@
 use Rattle.std.proofs.Common.{◌++◌, subst}
-use Rattle.slab.specs.Slab.{get}
+use Rattle.des_queue.specs.Shelf.{get}
 use Rattle.des_event.specs.KeyOrder.{InKeyOrder}
 use Rattle.des_queue.specs.Days.{entries_in}
 use Rattle.des_queue.specs.EventKey.{event_key}

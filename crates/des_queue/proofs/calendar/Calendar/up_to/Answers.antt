@@ -2,7 +2,7 @@ use Rattle.std.proofs.Common.{◌≡◌, ◌≤◌, ◌∙◌, ◌++◌, ℕ, Li
 use Rattle.std.specs.Prelude.{IfOk}
 use Rattle.std.proofs.lemmas.Grind.{common_steps}
 use Rattle.std.proofs.lemmas.List.{drop_all}
-use Rattle.slab.specs.Slab.{get}
+use Rattle.des_queue.specs.Shelf.{get}
 use Rattle.des_event.specs.declared.event.Event.{Event}
 use Rattle.des_event.specs.KeyOrder.{before}
 use Rattle.des_queue.specs.Days.{entries_in}

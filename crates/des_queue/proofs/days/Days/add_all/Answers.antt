@@ -1,6 +1,6 @@
 use Rattle.std.proofs.Common.{◌≡◌, ◌≤◌, ◌<◌, ◌∙◌, ◌+◌, ◌++◌, ◌∷◌, List, ap, append_assoc, append-nil, arith, drop, length, map, slice_index_or, sym}
 use Rattle.std.proofs.lemmas.List.{drop_all, drop_more, map-append}
-use Rattle.slab.specs.Slab.{get}
+use Rattle.des_queue.specs.Shelf.{get}
 use Rattle.des_queue.specs.Days.{IsListed}
 use Rattle.des_queue.specs.Places.{Entry, entry_at}
 use Rattle.des_queue.proofs.Placed.{PlaceList, all_there, joined, listed_at}

@@ -1,5 +1,5 @@
 use Rattle.std.proofs.Common.{◌≡◌, ◌++◌, drop, map}
-use Rattle.slab.specs.Slab.{get}
+use Rattle.des_queue.specs.Shelf.{get}
 use Rattle.des_queue.specs.Days.{entries_in}
 use Rattle.des_queue.specs.Places.{entry_at}
 use Rattle.des_queue.proofs.Placed.{joined}

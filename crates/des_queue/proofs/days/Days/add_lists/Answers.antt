@@ -1,5 +1,5 @@
 use Rattle.std.proofs.Common.{◌∙◌, refl, sym, ap, vec_capacity}
-use Rattle.slab.specs.Slab.{get}
+use Rattle.des_queue.specs.Shelf.{get}
 use Rattle.des_queue.specs.Days.{IsListed}
 use Rattle.des_queue.proofs.Placed.{fit_empty, joined, joined_empty, placed_empty}
 use Rattle.des_queue.proofs.days.Days.add_lists.Goals as goal
@@ -14,6 +14,6 @@ returns-clause-days g c =
 pub returns-clause-same : goal.returns-clause-same
 returns-clause-same g c = record {
   today = refl;
-  slots = refl;
+  events = refl;
   places = joined_empty c.empty_lists.result.items c.empty_lists.ensures ∙ sym (ap joined c.requires.none);
 }

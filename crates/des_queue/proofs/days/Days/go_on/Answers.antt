@@ -1,4 +1,4 @@
-use Rattle.slab.specs.Slab.{get}
+use Rattle.des_queue.specs.Shelf.{get}
 use Rattle.des_queue.specs.Days.{IsListed}
 use Rattle.des_queue.proofs.Placed.{placed_of_none}
 use Rattle.des_queue.proofs.days.Days.go_on.Goals as goal

@@ -1,6 +1,6 @@
 use Rattle.std.proofs.Common.{◌≡◌, ℕ, ◌∙◌, ◌≤◌, ◌<◌, ◌+◌, ◌%◌, ◌++◌, List, length, map, slice_index_or, sym, ap, arith, subst, vec_capacity}
 use Rattle.std.specs.List.{AllByRecursion}
-use Rattle.slab.specs.Slab.{get}
+use Rattle.des_queue.specs.Shelf.{get}
 use Rattle.des_event.proofs.KeyLists.{all_from, all_in}
 use Rattle.des_queue.specs.declared.days.Days.{Days}
 use Rattle.des_queue.specs.Days.{AreDays, IsListed, day_of, list_count}

@@ -1,8 +1,7 @@
 use Rattle.std.proofs.Common.{◌≡◌, ◌∙◌, ◌<◌, ◌≤◌, ◌++◌, ◌∷◌, [], List, ℕ, Some, IsSomeAnd, length, slice_index_or, sym, ap, subst, arith, refl}
-use Rattle.slab.specs.Slab.{get}
+use Rattle.des_queue.specs.Shelf.{get}
 use Rattle.des_queue.specs.Days.{IsInPlace, IsListed}
 use Rattle.des_queue.proofs.Placed.{PlaceList, all_set, joined_more, listed_more, placed_more}
-use Rattle.des_queue.proofs.Places.{changes_by}
 use Rattle.des_queue.proofs.days.Days.put.Goals as goal
 
 more : (g : _) (c : goal.After-self-2-1 g) → let d = c.args.self.now in
@@ -15,7 +14,7 @@ returns-clause-days g c room days takes =
     let d = c.args.self.now in let s = get d.events in let t = get c.insert_reserved-place.new.self in let last = c.max-self.result in
     let at = c.args.at in let v = c.index_mut.result.now in let l = c.push_reserved.new.self in
     let place = c.insert_reserved-place.result in let e = c.args.event in let put = c.insert_reserved-place.ensures in
-    let there = changes_by d.events c.insert_reserved-place.new.self place (Some e) put.updates in
+    let there = put.changed in
     let less : length v.items < room = subst (λ (m : PlaceList). length m.items < room) (sym c.index_mut.ensures.value) (takes.fit v) in record {
       placed = placed_more (IsListed s d.today d.latest) (IsListed t d.today last) at d.lists.items v l place takes.listed (more g c)
           (listed_more s t place e d.today d.latest last put.was_vacant there (omega (arith, c.max-self.ensures)))
@@ -36,6 +35,6 @@ returns-clause-taken g c =
       place = place;
       today = refl;
       free = put.was_vacant;
-      updates = put.updates;
+      changed = put.changed;
       places = joined_more c.args.self.now.lists.items c.args.at c.index_mut.result.now c.push_reserved.new.self place c.requires.1.listed (more g c);
     }

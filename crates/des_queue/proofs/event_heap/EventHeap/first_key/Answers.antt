@@ -1,6 +1,6 @@
 use Rattle.std.proofs.Common.{◌∙◌, List, refl, ap, arith, option_map, slice_get}
 use Rattle.std.specs.BinaryHeap.{heap_items}
-use Rattle.slab.specs.Slab.{get}
+use Rattle.des_queue.specs.Shelf.{get}
 use Rattle.des_event.specs.declared.event.Event.{Event}
 use Rattle.des_queue.proofs.Places.{held_by, first_of}
 use Rattle.des_queue.proofs.event_heap.EventHeap.first_key.Goals as goal

@@ -1,11 +1,11 @@
 use Rattle.std.proofs.Common.{◌≡◌, ◌∙◌, ◌∷◌, [], List, ap, refl, subst, sym, arith}
 use Rattle.std.specs.Prelude.{IsSome}
 use Rattle.std.specs.BinaryHeap.{heap_items}
-use Rattle.slab.specs.Slab.{get}
+use Rattle.des_queue.specs.Shelf.{get}
 use Rattle.des_event.specs.declared.event.Event.{Event}
 use Rattle.des_queue.specs.Places.{Entry, Held, heap_events, events_at, in_key_order}
 use Rattle.des_queue.proofs.Inserting.{empty}
-use Rattle.des_queue.proofs.Places.{changes_by, event_of, held_by, held_permuted, placed_by, popped}
+use Rattle.des_queue.proofs.Places.{event_of, held_by, held_permuted, placed_by, popped}
 use Rattle.des_queue.proofs.event_heap.EventHeap.pop_first.Goals as goal
 
 after : (g : _) (c : goal.After-remove g) → let t = get c.remove.new.self in let rest = heap_items c.pop.new.self in
@@ -14,7 +14,7 @@ after g c =
     let p = c.self.inside in let out = c.in_ok-waiting.ensures in
     popped (get p.events) (get c.remove.new.self) (heap_items p.heap) (heap_items c.pop.new.self) c.in_ok-waiting.waiting c.remove.result
     (held_by p c.self.invariant)
-    out.permutation (out.below_top c.self.invariant.ordered) c.remove.ensures.value (changes_by p.events c.remove.new.self _ _ c.remove.ensures.updates)
+    out.permutation (out.below_top c.self.invariant.ordered) c.remove.ensures.value c.remove.ensures.changed
 
 pub invariant_of-self-2 : goal.invariant_of-self-2
 invariant_of-self-2 g c =
@@ -24,7 +24,7 @@ invariant_of-self-2 g c =
       events = c.remove.new.self;
       alloc = c.self.inside.alloc;
     }) (out.heap_order c.self.invariant.ordered).0 (after g c).0
-    (omega (arith, c.remove.ensures.len, out.len, c.self.invariant.counted))
+    (omega (arith, c.remove.ensures.count, out.len, c.self.invariant.counted))
 
 pub returns : goal.returns
 returns g c = sym c.self.view_is ∙ (after g c).1

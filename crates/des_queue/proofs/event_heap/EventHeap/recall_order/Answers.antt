@@ -1,6 +1,6 @@
 use Rattle.std.proofs.Common.{subst}
 use Rattle.std.specs.BinaryHeap.{heap_items}
-use Rattle.slab.specs.Slab.{get}
+use Rattle.des_queue.specs.Shelf.{get}
 use Rattle.des_event.specs.KeyOrder.{InKeyOrder}
 use Rattle.des_queue.specs.EventKey.{event_key}
 use Rattle.des_queue.proofs.Places.{held_by, ordered}
