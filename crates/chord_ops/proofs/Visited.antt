@@ -1,5 +1,5 @@
 -- A node that is looked at twice in a row counts once, in the search for the closest preceding node.
-use Rattle.std.proofs.Common.{◌≡◌, ℕ, ◌+◌, ◌<◌, ◌&&◌, Bool, true, false, not, List, [], ◌∷◌, ◌++◌, ◌∙◌, ◌-◌, arith, refl, sym, nat_le, nat_lt, Some, None}
+use Rattle.std.proofs.Common.{◌≡◌, ℕ, ◌+◌, ◌&&◌, Bool, true, false, not, List, [], ◌∷◌, ◌++◌, ◌∙◌, ◌-◌, arith, refl, sym, nat_le, nat_lt, Some, None}
 use Rattle.std.proofs.lemmas.Bool.Decides.{nat_tests}
 use Rattle.std.specs.List.{filter, fold}
 use Rattle.std.specs.Prelude.{if◌then◌else◌}

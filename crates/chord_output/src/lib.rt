@@ -2,8 +2,10 @@
 //! runs down.
 #![tactic(auto)]
 
+mod actor_ring;
 mod chord_scribe;
 mod ring;
 
-pub use chord_scribe::ChordScribe;
+pub use actor_ring::ActorRing;
+pub use chord_scribe::{ChordScribe, RingMachine};
 pub use ring::ChordRing;

@@ -1,12 +1,12 @@
 //! Chord as a machine of the simulation kernel.
+use crate::chord_scribe::RingMachine;
 use chord_audit::audit_states;
 use chord_event::{Body, Event, Memory};
 use chord_machine::audit_times;
 use chord_node::{NodeState, initial_ring};
-use chord_ops::{Effect, Spare, act_with};
+use chord_ops::Actor;
 use chord_scenario::Scenario;
 use chord_trace::Piece;
-use des_event::Listed;
 use des_machine::{Machine, States};
 use des_parts::CopiesStates;
 use std::alloc::Global;
@@ -86,38 +86,11 @@ impl<'s> Machine for ChordRing<'s> {
         made: &mut Vec<Event>,
     ) -> Result<Piece, Memory> {
         self.scenario.recall_range();
-        let room = mem::replace(made, Vec::new(alloc));
-        let spare = Spare::of(room, Listed::new(alloc));
-        let Effect { events, block } = act_with(alloc, self.scenario, state, event, spare)?;
-        // What stood in its place has no memory to free.
-        mem::forget(mem::replace(made, events.into_vec()));
+        let mut actor = Actor::new(alloc, mem::replace(state, NodeState::never_up(alloc, 0)));
+        let block = actor.act(alloc, self.scenario, event, made)?;
+        // What stood in the state's place has no memory to free.
+        mem::forget(mem::replace(state, actor.into_state()));
         Ok(Piece::OfEvent { block })
-    }
-
-    #[inline(always)]
-    fn fetch_state(&self, state: &NodeState) -> u64 {
-        // A state lies in three or four cache lines. These numbers are in three of them.
-        let calls = state.calls.as_slice().len() as u64;
-        state.epoch.wrapping_add(calls).wrapping_add(state.count)
-    }
-
-    #[inline(always)]
-    fn fetch_lists(&self, state: &NodeState) -> u64 {
-        let successor = state.succ.as_slice().first().copied().unwrap_or(0);
-        let finger = match state.fingers.runs().first() {
-            Some(run) => run.node,
-            None => 0,
-        };
-        let call = match state.calls.as_slice().first() {
-            Some(call) => call.number,
-            None => 0,
-        };
-        let lookup = match state.lookups.as_slice().first() {
-            Some(lookup) => lookup.call,
-            None => 0,
-        };
-        let nodes = u64::from(successor).wrapping_add(u64::from(finger));
-        nodes.wrapping_add(call).wrapping_add(lookup)
     }
 
     fn audit_times(&self, alloc: Global) -> Result<Vec<u64>, Memory> {
@@ -135,6 +108,16 @@ impl<'s> Machine for ChordRing<'s> {
     }
 
     ghost simulable = { λ ring ranges. is_simulable ring.scenario.now ranges };
+}
+
+impl<'s> RingMachine for ChordRing<'s> {
+    ghost scenario_of = { λ ring. ring.scenario.now };
+
+    fn scenario(&self) -> &Scenario {
+        self.scenario
+    }
+
+    ghost known = { λ ring piece known. known };
 }
 
 impl<'s> CopiesStates for ChordRing<'s> {

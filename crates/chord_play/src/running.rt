@@ -6,7 +6,7 @@ ghost use Rattle.des_output.specs.Watched.{wrapped, has_failed};
 ghost use Rattle.des_output.specs.Writing.{is_write};
 
 use chord_event::{Memory, RunError};
-use chord_output::{ChordRing, ChordScribe};
+use chord_output::{ActorRing, ChordRing, ChordScribe};
 use chord_plan::{Engine, Plan, Split};
 use chord_scenario::Scenario;
 use chord_trace::{Report, Watched};
@@ -48,10 +48,11 @@ pub fn run_planned<T: Threads + Wait + Sync, S: Starter, G: Gate + Sync, W: Writ
     ensures only { IfErr result (λ e. (e ≡ RunError.Memory) ⊎ (e ≡ RunError.Worker) ⊎ (e ≡ RunError.TooManyEvents) ⊎ (e ≡ RunError.Write)) }
 {
     scenario.recall_range();
-    let ring = ChordRing { scenario };
+    let ring = ActorRing { scenario };
     match plan.engine {
-        Engine::Serial => run_serial::<ChordRing<'_>, ChordScribe, W>(alloc, &ring, writer),
+        Engine::Serial => run_serial::<ActorRing<'_>, ChordScribe, W>(alloc, &ring, writer),
         Engine::Crew => {
+            let ring = ChordRing { scenario };
             let division = divide(alloc, plan, scenario.nodes())?;
             let crew = Crew {
                 division: &division,
@@ -64,7 +65,7 @@ pub fn run_planned<T: Threads + Wait + Sync, S: Starter, G: Gate + Sync, W: Writ
         }
         Engine::Team => {
             let division = divide(alloc, plan, scenario.nodes())?;
-            run_team::<ChordRing<'_>, ChordScribe, T, W>(
+            run_team::<ActorRing<'_>, ChordScribe, T, W>(
                 rt,
                 alloc,
                 &ring,

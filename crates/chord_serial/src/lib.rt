@@ -7,7 +7,7 @@ ghost use Rattle.des_output.specs.Watched.{wrapped, has_failed};
 ghost use Rattle.des_output.specs.Writing.{is_write};
 
 use chord_event::RunError;
-use chord_output::{ChordRing, ChordScribe};
+use chord_output::{ActorRing, ChordScribe};
 use chord_scenario::Scenario;
 use chord_trace::{Report, Watched};
 use std::alloc::Global;
@@ -25,6 +25,6 @@ pub fn run_serial<W: Write>(
     ensures writer { has_failed writer.new ≡ is_write result }
     ensures only { IfErr result (λ e. (e ≡ RunError.Memory) ⊎ (e ≡ RunError.Write) ⊎ (e ≡ RunError.TooManyEvents)) }
 {
-    let ring = ChordRing { scenario };
-    des_serial::run_serial::<ChordRing<'_>, ChordScribe, W>(alloc, &ring, writer)
+    let ring = ActorRing { scenario };
+    des_serial::run_serial::<ActorRing<'_>, ChordScribe, W>(alloc, &ring, writer)
 }

@@ -9,7 +9,7 @@ ghost use Rattle.des_output.specs.Watched.{wrapped, has_failed};
 ghost use Rattle.des_output.specs.Writing.{is_write};
 
 use chord_event::RunError;
-use chord_output::{ChordRing, ChordScribe};
+use chord_output::{ActorRing, ChordScribe};
 use chord_scenario::Scenario;
 use chord_trace::{Report, Watched};
 pub use des_team::MOST_WORKERS;
@@ -49,8 +49,8 @@ pub fn run_team<R: Threads + Wait + Sync, W: Write>(
     ensures bad { result ≡ Err RunError.BadDivision → (length division.now.of_node ≢ node_count scenario.now) × (writer.new ≡ writer.old) }
     ensures divides { OnOk result (length division.now.of_node ≡ node_count scenario.now) }
 {
-    let ring = ChordRing { scenario };
-    des_team::run_team::<ChordRing<'_>, ChordScribe, R, W>(
+    let ring = ActorRing { scenario };
+    des_team::run_team::<ActorRing<'_>, ChordScribe, R, W>(
         rt, alloc, &ring, division, workers, writer,
     )
 }
@@ -72,8 +72,8 @@ pub fn run_team_by<R: Threads + Wait + Sync, W: Write>(
     ensures bad { result ≡ Err RunError.BadDivision → (length division.now.of_node ≢ node_count scenario.now) × (writer.new ≡ writer.old) }
     ensures divides { OnOk result (length division.now.of_node ≡ node_count scenario.now) }
 {
-    let ring = ChordRing { scenario };
-    des_team::run_team_by::<ChordRing<'_>, ChordScribe, R, W>(
+    let ring = ActorRing { scenario };
+    des_team::run_team_by::<ActorRing<'_>, ChordScribe, R, W>(
         rt, alloc, &ring, division, hands, writer,
     )
 }

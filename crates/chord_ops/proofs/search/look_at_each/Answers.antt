@@ -1,7 +1,6 @@
-use Rattle.std.proofs.Common.{arith, ◌≡◌, ◌∙◌, ◌+◌, ◌<◌, ℕ, get_or, length, sym, take}
+use Rattle.std.proofs.Common.{arith, ◌∙◌, ◌<◌, ℕ, length, sym}
 use Rattle.std.proofs.lemmas.Grind.{common_steps}
 use Rattle.std.proofs.lemmas.List.Sums.{fold_more}
-use Rattle.std.specs.List.{fold}
 use Rattle.chord_ops.specs.Search.{visited}
 use Rattle.chord_ops.proofs.search.look_at_each.Goals as goal
 
